@@ -1,0 +1,25 @@
+-- The chunks of a file, and its parities. `size` is the number of bytes of a chunk, and `file` has the file's bytes.
+use Rattle.std.specs.Prelude.{ℕ, ◌+◌, ◌-◌, ◌*◌, min, List, length, slice_index}
+use Rattle.std.specs.Int.{div_ceil}
+use Rattle.mf_rules.specs.Field.{times, power}
+use Rattle.mf_rules.specs.Sums.{sum_between}
+use Rattle.mf_rules.specs.Rows.{list_of}
+
+-- How many chunks the file has: its length divided by the size of a chunk, and rounded up.
+abbrev pub chunk_count : ℕ → List ℕ → ℕ
+chunk_count size file = div_ceil (length file) size
+
+-- Chunk i: its byte x is byte i * size + x of the file, or 0 where the file has no such byte.
+unfoldable pub chunk : ℕ → List ℕ → ℕ → List ℕ
+chunk size file i = list_of size (λ x. slice_index file (i * size + x))
+
+-- Byte x of the parity with this point of stripe j of this width: the sum, over the chunks t of the stripe as far as the
+-- file has them, of point ^ (t - j * width) times byte x of chunk t.
+unfoldable pub parity_byte : ℕ → List ℕ → ℕ → ℕ → ℕ → ℕ → ℕ
+parity_byte size file point width j x =
+    sum_between (j * width) (min ((j + 1) * width) (chunk_count size file))
+    (λ t. times (power point (t - j * width)) (slice_index (chunk size file t) x))
+
+-- The parity with this point of stripe j of this width.
+unfoldable pub parity : ℕ → List ℕ → ℕ → ℕ → ℕ → List ℕ
+parity size file point width j = list_of size (parity_byte size file point width j)

@@ -1,0 +1,6 @@
+-- The words of the code's algebra. A byte is a number below 256, and a sum of bytes is their exclusive or.
+pub mod Field
+pub mod Sums
+pub mod Rows
+pub mod Chunks
+pub mod Decodable

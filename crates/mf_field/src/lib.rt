@@ -1,0 +1,57 @@
+//! The field of 256 elements, which are the bytes. Addition is exclusive or, and multiplication is that of polynomials
+//! over the field of two elements modulo `x^8 + x^4 + x^3 + x^2 + 1`, which is 0x11D. No call takes memory.
+#![tactic(auto)]
+
+ghost use Rattle.std.specs.Prelude.{◌≡◌, ◌↔◌, bit_xor, IsNone, IfSome};
+ghost use Rattle.mf_rules.specs.Field.{times, power};
+
+pub mod laws;
+mod tables;
+
+use tables::{exponent, power_of_two};
+
+/// The sum of two elements, which is also their difference.
+pub fn add(a: u8, b: u8) -> u8
+    ensures { result ≡ bit_xor a b }
+{
+    a ^ b
+}
+
+/// The product of two elements.
+pub fn mul(a: u8, b: u8) -> u8
+    ensures { result ≡ times a b }
+{
+    if a == 0 || b == 0 {
+        0
+    } else {
+        power_of_two(exponent(a) + exponent(b))
+    }
+}
+
+/// The product of e factors a. It is 1 where e is 0, also for a = 0.
+pub fn pow(a: u8, e: u32) -> u8
+    ensures { result ≡ power a e }
+{
+    if e == 0 {
+        1
+    } else if a == 0 {
+        0
+    } else {
+        power_of_two(exponent(a) * e as usize % 255)
+    }
+}
+
+/// The element whose product with a is 1. There is none exactly for 0.
+pub fn inv(a: u8) -> Option<u8>
+    ensures none { IsNone result ↔ (a ≡ 0) }
+    ensures product { IfSome result (λ b. times a b ≡ 1) }
+{
+    if a == 0 {
+        None
+    } else {
+        Some(power_of_two(255 - exponent(a)))
+    }
+}
+
+#[cfg(test)]
+mod tests;

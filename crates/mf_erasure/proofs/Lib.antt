@@ -1,0 +1,4 @@
+pub mod Spread
+pub mod Bridge
+pub mod Others
+pub mod Places

@@ -1,0 +1,8 @@
+use Rattle.std.proofs.Common.{bit_xor, arith}
+use Rattle.mf_kernel.proofs.Zips.{zip2_from_places}
+use Rattle.mf_kernel.proofs.kernels.add_into.Goals as goal
+
+pub returns : goal.returns
+returns c =
+    zip2_from_places bit_xor c.args.dst.now c.args.src.now c.loop-i.dst (omega arith) (omega arith)
+    (λ k lt. c.loop-i.invariant.0 k (omega arith))

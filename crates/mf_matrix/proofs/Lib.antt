@@ -1,0 +1,6 @@
+pub mod Linear
+pub mod Steps
+pub mod Sums
+pub mod Inverses
+pub mod Kernels
+pub mod Pivots

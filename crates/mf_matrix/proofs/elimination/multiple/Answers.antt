@@ -1,0 +1,15 @@
+use Rattle.std.proofs.Common.{◌≤◌, inl, inr, arith, sym, ap, ◌∙◌, subst}
+use Rattle.std.proofs.lemmas.Bool.{cases_lt}
+use Rattle.std.proofs.lemmas.List.{get_or_past}
+use Rattle.mf_rules.specs.Field.{times}
+use Rattle.mf_field.proofs.FieldLaws.{times-zero}
+use Rattle.mf_matrix.proofs.elimination.multiple.Goals as goal
+
+pub returns : goal.returns
+returns c = λ j. elim (cases_lt j 16) [
+  | inl lt ↦ c.loop-j.invariant.done j (omega arith)
+  | inr past ↦
+      get_or_past c.loop-j.product j 0 (subst (λ m. m ≤ j) (sym c.loop-j.invariant.len) past)
+      ∙ sym (times-zero c.args.factor)
+      ∙ ap (times c.args.factor) (sym (get_or_past c.args.equation j 0 (subst (λ m. m ≤ j) (sym c.loop-j.invariant.equation_len) past)))
+]

@@ -1,0 +1,4 @@
+pub mod Tables
+pub mod Matrix
+pub mod NoInverses
+pub mod Elimination

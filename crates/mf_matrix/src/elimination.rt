@@ -1,0 +1,251 @@
+//! Elimination. To invert a matrix a is to solve a x = y for x, whatever y is. Each equation of the
+//! system has its coefficients of x first, and behind them those of y. Steps that keep the solutions
+//! solve it for one unknown after the other.
+ghost use Rattle.std.specs.Prelude.{◌≡◌, ◌≢◌, ℕ, ◌+◌, ◌*◌, ◌<◌, ◌≤◌, ◌⊎◌, ◌++◌, length, slice_index, bit_xor, OnOk, IfOk, IfSome, IfNone};
+ghost use Rattle.std.specs.Bool.{OnTrue, OnFalse};
+ghost use Rattle.mf_rules.specs.Field.{times};
+ghost use Rattle.mf_rules.specs.Rows.{list_of};
+ghost use Rattle.mf_matrix.specs.Tables.{IsTable};
+ghost use Rattle.mf_matrix.specs.Matrix.{entry};
+ghost use Rattle.mf_matrix.specs.Elimination.{coefficient, SameSolutions, IsSolvedBelow, AddsTimes, Scales, IsSystemOf, IsStuckAt, IsLeading, shown_at};
+
+use crate::Matrix;
+use mf_field::{add, inv, mul};
+use std::alloc::{AllocError, Global};
+
+/// The coefficients of one equation, those of x from place 0 on, and those of y after them.
+pub type Equation = [u8; 16];
+
+/// The equation with a multiple of another one added.
+fn plus_times(equation: Equation, factor: u8, other: Equation) -> Equation
+    ensures { (j : ℕ) → slice_index result j ≡ bit_xor (slice_index equation j) (times factor (slice_index other j)) }
+{
+    let mut sum = equation;
+    for j in 0..16 {
+        sum[j] = add(equation[j], mul(factor, other[j]));
+    }
+    sum
+}
+
+/// A multiple of the equation.
+fn multiple(equation: Equation, factor: u8) -> Equation
+    ensures { (j : ℕ) → slice_index result j ≡ times factor (slice_index equation j) }
+{
+    let mut product = equation;
+    for j in 0..16 {
+        product[j] = mul(factor, equation[j]);
+    }
+    product
+}
+
+/// The system that says that the matrix times x is y.
+pub fn equations_of(matrix: &Matrix) -> [Equation; 8]
+    requires { matrix.now.rows ≡ matrix.now.columns }
+    ensures says { IsSystemOf matrix.now.columns (entry matrix.now) (coefficient result) }
+    ensures unsolved { IsSolvedBelow matrix.now.columns (coefficient result) 0 }
+{
+    let size = matrix.columns;
+    let mut equations = [[0; 16]; 8];
+    for i in 0..size {
+        let mut equation = [0; 16];
+        for j in 0..size {
+            equation[j as usize] = matrix.at(i, j);
+        }
+        equation[(size + i) as usize] = 1;
+        equations[i as usize] = equation;
+    }
+    equations
+}
+
+/// The first equation from `column` on that has the unknown of this column.
+fn equation_with(equations: &[Equation; 8], size: usize, column: usize) -> Option<usize>
+    requires { size ≤ 8 }
+    ensures some { IfSome result (λ i. (column ≤ i) × (i < size) × (coefficient equations.now i column ≢ 0)) }
+    ensures none { IfNone result (IsStuckAt size (coefficient equations.now) column) }
+{
+    for i in column..size {
+        if equations[i][column] != 0 {
+            return Some(i);
+        }
+    }
+    None
+}
+
+/// Adds a multiple of equation `p` to equation `i`.
+fn add_to(equations: &mut [Equation; 8], i: usize, factor: u8, p: usize)
+    requires i_in { i < 8 }
+    requires p_in { p < 8 }
+    ensures { AddsTimes (coefficient equations.old) (coefficient equations.new) i factor p }
+{
+    let other = equations[p];
+    equations[i] = plus_times(equations[i], factor, other);
+}
+
+/// Multiplies equation `i`.
+fn scale(equations: &mut [Equation; 8], i: usize, factor: u8)
+    requires { i < 8 }
+    ensures { Scales (coefficient equations.old) (coefficient equations.new) i factor }
+{
+    equations[i] = multiple(equations[i], factor);
+}
+
+/// Brings the unknown of this column into the equation of the column, from equation `with`.
+fn bring(equations: &mut [Equation; 8], size: usize, column: usize, with: usize)
+    requires few { size ≤ 8 }
+    requires behind { column ≤ with }
+    requires within { with < size }
+    requires has { coefficient equations.old with column ≢ 0 }
+    requires solved { IsSolvedBelow size (coefficient equations.old) column }
+    ensures same { SameSolutions size (coefficient equations.old) (coefficient equations.new) }
+    ensures solved { IsSolvedBelow size (coefficient equations.new) column }
+    ensures has { coefficient equations.new column column ≢ 0 }
+{
+    if equations[column][column] == 0 {
+        add_to(equations, column, 1, with);
+    }
+}
+
+/// Makes the coefficient of the unknown of this column 1 in the equation of the column.
+fn normalize(equations: &mut [Equation; 8], size: usize, column: usize)
+    requires few { size ≤ 8 }
+    requires within { column < size }
+    requires has { coefficient equations.old column column ≢ 0 }
+    requires solved { IsSolvedBelow size (coefficient equations.old) column }
+    ensures same { SameSolutions size (coefficient equations.old) (coefficient equations.new) }
+    ensures solved { IsSolvedBelow size (coefficient equations.new) column }
+    ensures one { coefficient equations.new column column ≡ 1 }
+{
+    if let Some(factor) = inv(equations[column][column]) {
+        scale(equations, column, factor);
+    } else {
+        unreachable!();
+    }
+}
+
+/// Takes the unknown of this column out of all equations but its own.
+fn clear(equations: &mut [Equation; 8], size: usize, column: usize)
+    requires few { size ≤ 8 }
+    requires within { column < size }
+    requires one { coefficient equations.old column column ≡ 1 }
+    requires solved { IsSolvedBelow size (coefficient equations.old) column }
+    ensures same { SameSolutions size (coefficient equations.old) (coefficient equations.new) }
+    ensures solved { IsSolvedBelow size (coefficient equations.new) (column + 1) }
+{
+    for i in 0..size {
+        if i != column {
+            let factor = equations[i][column];
+            add_to(equations, i, factor, column);
+        }
+    }
+}
+
+/// Solves the system for the unknown of this column: the unknown stays in one equation alone. False
+/// where no equation from `column` on has it, and then nothing changes.
+pub fn solve_for(equations: &mut [Equation; 8], size: usize, column: usize) -> bool
+    requires few { size ≤ 8 }
+    requires within { column < size }
+    requires solved { IsSolvedBelow size (coefficient equations.old) column }
+    ensures same { SameSolutions size (coefficient equations.old) (coefficient equations.new) }
+    ensures solved { OnTrue result (IsSolvedBelow size (coefficient equations.new) (column + 1)) }
+    ensures unchanged { OnFalse result (equations.new ≡ equations.old) }
+    ensures stuck { OnFalse result (IsStuckAt size (coefficient equations.old) column) }
+{
+    match equation_with(equations, size, column) {
+        None => false,
+        Some(with) => {
+            bring(equations, size, column, with);
+            normalize(equations, size, column);
+            clear(equations, size, column);
+            true
+        }
+    }
+}
+
+/// The first number of the column before its own equation that is not zero, or 1.
+fn leading(equations: &[Equation; 8], column: usize) -> u8
+    requires { column < 8 }
+    ensures { IsLeading (coefficient equations.now) column result }
+{
+    for i in 0..column {
+        if equations[i][column] != 0 {
+            return equations[i][column];
+        }
+    }
+    1
+}
+
+/// Entry `i` of the kernel list that a column shows, times a factor.
+fn shown(equations: &[Equation; 8], column: usize, factor: u8, i: usize) -> u8
+    requires column_in { column < 8 }
+    ensures { result ≡ shown_at (coefficient equations.now) column factor i }
+{
+    if i < column {
+        mul(factor, equations[i][column])
+    } else if i == column {
+        factor
+    } else {
+        0
+    }
+}
+
+/// The list that a column shows, times a factor.
+fn shown_list(
+    alloc: Global,
+    equations: &[Equation; 8],
+    size: usize,
+    column: usize,
+    factor: u8,
+) -> Result<Vec<u8>, AllocError>
+    requires { column < 8 }
+    ensures { IfOk result (λ list. list.items ≡ list_of size (shown_at (coefficient equations.now) column factor)) }
+{
+    let mut list = Vec::with_capacity(alloc, size)?;
+    for i in 0..size {
+        list.push(shown(equations, column, factor, i))?;
+    }
+    Ok(list)
+}
+
+/// The kernel list that the column of an unknown shows for which the system can't be solved: its
+/// first entry that is not zero is 1.
+pub fn kernel_of(
+    alloc: Global,
+    equations: &[Equation; 8],
+    size: usize,
+    column: usize,
+) -> Result<Vec<u8>, AllocError>
+    requires { column < 8 }
+    ensures { IfOk result (λ list. (v f : ℕ) × IsLeading (coefficient equations.now) column v × (times v f ≡ 1) × (f < 256) × (list.items ≡ list_of size (shown_at (coefficient equations.now) column f))) }
+{
+    if let Some(factor) = inv(leading(equations, column)) {
+        shown_list(alloc, equations, size, column, factor)
+    } else {
+        unreachable!()
+    }
+}
+
+/// Appends the equation's coefficients of y.
+fn push_right(cells: &mut Vec<u8>, equation: &Equation, size: usize) -> Result<(), AllocError>
+    requires { size ≤ 8 }
+    ensures { OnOk result (cells.new.items ≡ cells.old.items ++ list_of size (λ b. slice_index equation.now (size + b))) }
+{
+    cells.extend_from_slice(&equation[size..size + size])?;
+    Ok(())
+}
+
+/// The cells of the inverse, which the solved system has on its right side.
+pub fn inverse_cells(
+    alloc: Global,
+    equations: &[Equation; 8],
+    size: usize,
+) -> Result<Vec<u8>, AllocError>
+    requires { size ≤ 8 }
+    ensures len { IfOk result (λ cells. length cells.items ≡ size * size) }
+    ensures cells { IfOk result (λ cells. (i j : ℕ) → i < size → j < size → slice_index cells.items (i * size + j) ≡ coefficient equations.now i (size + j)) }
+{
+    let mut cells = Vec::with_capacity(alloc, size * size)?;
+    for i in 0..size {
+        push_right(&mut cells, &equations[i], size)?;
+    }
+    Ok(cells)
+}

@@ -1,0 +1,156 @@
+//! Small matrices over the field of bytes, their inverses and their kernels.
+#![tactic(auto)]
+
+ghost use Rattle.std.specs.Prelude.{◌≡◌, ℕ, ◌+◌, ◌*◌, ◌<◌, ◌≤◌, ⊤, length, slice_index, IfOk, IfErr};
+ghost use Rattle.mf_matrix.specs.Tables.{IsInverse};
+ghost use Rattle.mf_matrix.specs.Matrix.{IsGrid, entry};
+ghost use Rattle.mf_matrix.specs.NoInverses.{IsNoInverse};
+
+mod elimination;
+
+use elimination::{equations_of, inverse_cells, kernel_of, solve_for};
+use std::alloc::{AllocError, Global};
+use std::marker::Model;
+
+/// A matrix of bytes with at most eight rows and eight columns.
+#[derive(Debug, Drop)]
+pub struct Matrix {
+    rows: u32,
+    columns: u32,
+    cells: Vec<u8>,
+}
+
+impl Model for Matrix {
+    ghost use Rattle.mf_matrix.specs.Matrix.{Grid, IsGrid};
+
+    ghost Value = { Grid };
+
+    ghost view = { λ m. record { rows = m.rows; columns = m.columns; cells = m.cells.items } };
+
+    ghost invariant = { λ m. IsGrid (record { rows = m.rows; columns = m.columns; cells = m.cells.items }) };
+}
+
+/// The kernel list of a matrix that has no inverse: the matrix sends it to zero, it is zero after the
+/// first column that depends on the columns before it, and its first entry that is not zero is 1.
+#[derive(Debug, Drop)]
+pub struct KernelList {
+    entries: Vec<u8>,
+}
+
+impl Model for KernelList {
+    ghost use Rattle.std.specs.Prelude.{List, ℕ};
+
+    ghost Value = { List ℕ };
+
+    ghost view = { λ kernel. kernel.entries.items };
+}
+
+impl KernelList {
+    /// The entries, one for each column.
+    pub fn as_slice(&self) -> &[u8]
+        ensures { result.now ≡ self.now }
+    {
+        self.entries.as_slice()
+    }
+}
+
+/// What is answered in place of an inverse.
+#[derive(Debug, Drop)]
+pub enum NoInverse {
+    /// The matrix has no inverse, and this is its kernel list.
+    Kernel(KernelList),
+    /// Memory ran out.
+    Memory,
+}
+
+impl Matrix {
+    /// The matrix of these cells, row by row.
+    pub fn new(rows: u32, columns: u32, cells: Vec<u8>) -> Matrix
+        requires few_rows { rows ≤ 8 }
+        requires few_columns { columns ≤ 8 }
+        requires filled { length cells.items ≡ rows * columns }
+        ensures made { result ≡ record { rows = rows; columns = columns; cells = cells.items } }
+        ensures kept { IsGrid result }
+    {
+        Matrix {
+            rows,
+            columns,
+            cells,
+        }
+    }
+
+    /// The cell in this row and column.
+    pub fn at(&self, row: u32, column: u32) -> u8
+        requires row_in { row < self.now.rows }
+        requires column_in { column < self.now.columns }
+        ensures { result ≡ entry self.now row column }
+    {
+        self.cells[(row * self.columns + column) as usize]
+    }
+}
+
+/// The inverse of a square matrix, or the one kernel list of a matrix that has none. `Memory` says
+/// that memory ran out, and nothing of the matrix.
+pub fn invert(alloc: Global, matrix: &Matrix) -> Result<Matrix, NoInverse>
+    requires { matrix.now.rows ≡ matrix.now.columns }
+    ensures size { IfOk result (λ b. (b.rows ≡ matrix.now.rows) × (b.columns ≡ matrix.now.columns)) }
+    ensures inverse { IfOk result (λ b. IsInverse (matrix.now.columns) (entry matrix.now) (entry b)) }
+    ensures kernel { IfErr result (IsNoInverse (matrix.now.columns) (entry matrix.now)) }
+{
+    let size = matrix.columns as usize;
+    let mut equations = equations_of(matrix);
+    for column in 0..size {
+        if !solve_for(&mut equations, size, column) {
+            return match kernel_of(alloc, &equations, size, column) {
+                Ok(entries) => Err(NoInverse::Kernel(KernelList { entries })),
+                Err(_) => Err(NoInverse::Memory),
+            };
+        }
+    }
+    match inverse_cells(alloc, &equations, size) {
+        Ok(cells) => Ok(Matrix::new(matrix.columns, matrix.columns, cells)),
+        Err(_) => Err(NoInverse::Memory),
+    }
+}
+
+#[cfg(test)]
+mod tests {
+    use super::*;
+    use std::test::Fail;
+
+    /// The kernel list of a square matrix of two rows, or none.
+    fn kernel_of_two(alloc: Global, cells: [u8; 4]) -> Result<Option<KernelList>, Fail> {
+        let matrix = Matrix::new(2, 2, Vec::from_array(alloc, cells)?);
+        match invert(alloc, &matrix) {
+            Ok(_) => Ok(None),
+            Err(NoInverse::Kernel(kernel)) => Ok(Some(kernel)),
+            Err(NoInverse::Memory) => Err(AllocError.into()),
+        }
+    }
+
+    #[test]
+    fn inverses_and_kernels(rt: HostRuntime) -> Result<(), Fail> {
+        let kernel = kernel_of_two(rt.alloc(), [1, 2, 1, 2])?.expect(&rt, "a kernel");
+        assert_eq!(rt; kernel.as_slice(), [0x01, 0x8e].as_slice());
+        let kernel = kernel_of_two(rt.alloc(), [0, 7, 0, 9])?.expect(&rt, "a kernel");
+        assert_eq!(rt; kernel.as_slice(), [1, 0].as_slice());
+        assert!(rt; kernel_of_two(rt.alloc(), [0, 1, 1, 0])?.is_none());
+
+        let matrix = Matrix::new(2, 2, Vec::from_array(rt.alloc(), [1, 1, 1, 2])?);
+        match invert(rt.alloc(), &matrix) {
+            Ok(inverse) => {
+                assert_eq!(rt; inverse.rows, 2);
+                assert_eq!(rt; inverse.columns, 2);
+                let cells = [
+                    inverse.at(0, 0),
+                    inverse.at(0, 1),
+                    inverse.at(1, 0),
+                    inverse.at(1, 1),
+                ];
+                assert_eq!(rt; cells, [0xf5, 0xf4, 0xf4, 0xf4]);
+            }
+            Err(_) => assert!(rt; false),
+        }
+        Ok(())
+    }
+}

@@ -1,0 +1,4 @@
+pub mod Zips
+pub mod Written
+pub mod Fronts
+pub mod Stripes

@@ -1,0 +1,118 @@
+//! Merging: the parity of a wide stripe, from the parities of the narrow stripes that it holds.
+#![tactic(auto)]
+
+ghost use Rattle.std.specs.Prelude.{◌≡◌, ◌+◌, ◌-◌, ◌*◌, ◌<◌, ◌≤◌, ℕ, List, ◌++◌, All, IfOk};
+ghost use Rattle.std.specs.Prelude.{length, take, drop};
+ghost use Rattle.mf_rules.specs.Chunks.{parity};
+ghost use Rattle.mf_rules.specs.Rows.{list_of};
+ghost use Rattle.mf_merge.specs.Merged.{first_length, merged_byte, narrow_parities};
+
+use mf_field::pow;
+use mf_kernel::{BLOCK, Chunk, Memory, add_scaled};
+use std::alloc::Global;
+
+/// The parity of a wide stripe with this point, from the parities with the same point of the stripes
+/// of `width` places that it holds: at most 64, of one length, in the order of their stripes, as far
+/// as the file has these. No data is read. The only error is want of memory.
+pub fn merge(alloc: Global, point: u8, width: u32, parities: &[Chunk]) -> Result<Vec<u8>, Memory>
+    requires some { 1 ≤ length parities.now }
+    requires at_most { length parities.now ≤ 64 }
+    requires wide { 1 ≤ width }
+    requires narrow { width ≤ 64 }
+    requires lengths { All (λ parity. length parity ≡ first_length parities.now) parities.now }
+    ensures sum { IfOk result (λ merged. merged.items
+        ≡ list_of (first_length parities.now) (merged_byte point width parities.now)) }
+
+    // Of a file's parities it is the parity of the wide stripe.
+    ensures of_file { (size : ℕ) (file : List ℕ) (factor j : ℕ) → All (λ b. b < 256) file
+        → parities.now ≡ narrow_parities size file point width factor j
+        → IfOk result (λ merged. merged.items ≡ parity size file point (factor * width) j) }
+{
+    let size = parities[0].bytes().len();
+    let mut merged = vec![in alloc; 0; size]?;
+    for block in 0..size.div_ceil(BLOCK) {
+        let start = block * BLOCK;
+        let end = (start + BLOCK).min(size);
+        merge_into(point, width, parities, start, end, &mut merged);
+    }
+    Ok(merged)
+}
+
+/// Fills `out` with the bytes from `start` on of the merged parity. Each of the parities has the
+/// columns that are filled.
+pub fn merge_block(point: u8, width: u32, parities: &[Chunk], start: usize, out: &mut [u8])
+    requires some { 1 ≤ length parities.now }
+    requires at_most { length parities.now ≤ 64 }
+    requires wide { 1 ≤ width }
+    requires narrow { width ≤ 64 }
+    requires columns { All (λ parity. start + length out.old ≤ length parity) parities.now }
+    ensures { out.new ≡ list_of (length out.old)
+        (λ x. merged_byte point width parities.now (start + x)) }
+{
+    out.fill(0);
+    for (b, parity) in parities.iter().enumerate() {
+        let bytes = parity.bytes();
+        let end = start + out.len();
+        add_scaled(out, pow(point, b as u32 * width), &bytes[start..end]);
+    }
+}
+
+/// Fills the columns from `start` to `end` of the merged parity.
+fn merge_into(
+    point: u8,
+    width: u32,
+    parities: &[Chunk],
+    start: usize,
+    end: usize,
+    merged: &mut [u8],
+)
+    requires some { 1 ≤ length parities.now }
+    requires at_most { length parities.now ≤ 64 }
+    requires wide { 1 ≤ width }
+    requires narrow { width ≤ 64 }
+    requires columns { All (λ parity. end ≤ length parity) parities.now }
+    requires order { start ≤ end }
+    requires room { end ≤ length merged.old }
+    ensures { merged.new ≡ take start merged.old
+        ++ list_of (end - start) (λ x. merged_byte point width parities.now (start + x))
+        ++ drop end merged.old }
+{
+    merge_block(point, width, parities, start, &mut merged[start..end]);
+}
+
+#[cfg(test)]
+mod tests {
+    use super::*;
+    use std::test::Fail;
+
+    // Parities of `size` bytes, each of one byte again and again, merged with the width 2.
+    fn merged(alloc: Global, point: u8, letters: &[u8], size: u32) -> Result<Vec<u8>, Memory>
+        requires some { 1 ≤ length letters.now }
+        requires at_most { length letters.now ≤ 64 }
+    {
+        let mut parities = Vec::new(alloc);
+        for byte in letters {
+            parities.push(Chunk::new(alloc, vec![in alloc; *byte; size as usize]?)?)?;
+        }
+        merge(alloc, point, 2, &parities)
+    }
+
+    // The stripes of the chunks a, b and of c, d have the parities 03, 07 by 1 and a5, ab by 2.
+    #[test]
+    fn whole_and_short_wide_stripes(rt: HostRuntime) -> Result<(), Fail> {
+        let alloc = rt.alloc();
+        for size in [1, 4_095, 4_096, 4_097] {
+            let n = size as usize;
+            assert_eq!(rt;
+                merged(alloc, 1, &[0x03, 0x07], size)?,
+                vec![in alloc; 0x04; n]?
+            );
+            assert_eq!(rt;
+                merged(alloc, 2, &[0xa5, 0xab], size)?,
+                vec![in alloc; 0x33; n]?
+            );
+            assert_eq!(rt; merged(alloc, 2, &[0x65], size)?, vec![in alloc; 0x65; n]?);
+        }
+        Ok(())
+    }
+}

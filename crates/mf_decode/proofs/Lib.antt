@@ -1,0 +1,11 @@
+pub mod Orders
+pub mod Filling
+pub mod Solving
+pub mod Tables
+pub mod Planned
+pub mod Blocks
+pub mod Decoded
+pub mod Lists
+pub mod Askings
+pub mod Whole
+pub mod OnePoint

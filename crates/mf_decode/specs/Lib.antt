@@ -1,0 +1,7 @@
+pub mod Stripes
+pub mod Answers
+pub mod Fronts
+pub mod Decoding
+pub mod Plans
+pub mod Columns
+pub mod Gathering

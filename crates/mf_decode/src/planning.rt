@@ -1,0 +1,180 @@
+//! Plans: which data of a stripe is erased, which parities are had in its stead, and the inverse that leads back.
+ghost use Rattle.std.specs.Prelude.{◌≡◌, ℕ, ◌+◌, ◌*◌, ◌<◌, ◌≤◌, ◌++◌, List, length, map, slice_index, OnOk, IfOk, IfErr};
+ghost use Rattle.mf_rules.specs.Field.{power};
+ghost use Rattle.mf_rules.specs.Rows.{list_of};
+ghost use Rattle.mf_matrix.specs.Matrix.{Grid, entry as cell_at};
+ghost use Rattle.mf_matrix.specs.Tables.{HasInverse};
+ghost use Rattle.mf_erasure.specs.Erasure.{entry, IsErasure};
+ghost use Rattle.mf_decode.specs.Plans.{IsNoPlan, HasRows, no_plan_of};
+
+use mf_field::pow;
+use mf_kernel::Memory;
+use mf_matrix::{KernelList, Matrix, NoInverse, invert};
+use std::alloc::{AllocError, Global};
+use std::marker::Model;
+
+/// How the erased data of a stripe is had again: a plan serves each stripe of its width that has lost the same data and
+/// has the same parities.
+#[derive(Debug, Drop)]
+pub struct DecodePlan {
+    pub(crate) points: Vec<u8>,
+    pub(crate) width: u32,
+    pub(crate) erased: Vec<u32>,
+    pub(crate) parities: Vec<u32>,
+    // The points of the parities, and the inverse of their matrix, row by row.
+    pub(crate) chosen: Vec<u8>,
+    pub(crate) inverse: Vec<u8>,
+}
+
+impl Model for DecodePlan {
+    ghost use Rattle.mf_decode.specs.Decoding.{Plan};
+    ghost use Rattle.mf_decode.specs.Plans.{IsPlan};
+
+    ghost Value = { Plan };
+
+    ghost view = { λ p. record { points = p.points.items; width = p.width; erased = p.erased.items; parities = p.parities.items } };
+
+    ghost invariant = { λ p. IsPlan (record { points = p.points.items; width = p.width; erased = p.erased.items; parities = p.parities.items }) p.chosen.items p.inverse.items };
+}
+
+/// Why there is no plan.
+#[derive(Debug, Drop)]
+pub enum NoPlan {
+    /// The matrix has no inverse, and this is its kernel list.
+    Kernel(KernelList),
+    /// Memory ran out.
+    Memory,
+}
+
+impl From<AllocError> for NoPlan {
+    ghost use Rattle.mf_decode.specs.declared.planning.NoPlan.TheVariants as no_plan;
+
+    ghost from_gives = { λ _ reason. reason ≡ no_plan.Memory };
+
+    fn from(_error: AllocError) -> NoPlan {
+        NoPlan::Memory
+    }
+}
+
+impl From<NoInverse> for NoPlan {
+    ghost from_gives = { λ reason same. same ≡ no_plan_of reason };
+
+    fn from(reason: NoInverse) -> NoPlan {
+        match reason {
+            NoInverse::Kernel(kernel) => NoPlan::Kernel(kernel),
+            NoInverse::Memory => NoPlan::Memory,
+        }
+    }
+}
+
+/// The plan by which the data at the erased places of a stripe of this width is had again from these parities and the
+/// other data. It has none exactly where the matrix of the parities' points has no inverse, or memory ran out.
+pub fn plan(
+    alloc: Global,
+    points: &[u8],
+    width: u32,
+    erased: &[u32],
+    parities: &[u32],
+) -> Result<DecodePlan, NoPlan>
+    requires width { (1 ≤ width) × (width ≤ 64) }
+    requires points { length points.now ≤ 4 }
+    requires erasure { IsErasure width (length points.now) erased.now parities.now }
+    ensures plan { IfOk result
+        (λ plan. plan
+        ≡ record {
+          points = points.now;
+          width = width;
+          erased = erased.now;
+          parities = parities.now;
+        }) }
+    ensures solvable { OnOk result (HasInverse (length erased.now)
+        (entry points.now erased.now parities.now)) }
+    ensures kernel { IfErr result (IsNoPlan (length erased.now)
+        (entry points.now erased.now parities.now)) }
+{
+    let size = erased.len() as u32;
+    let cells = cells_of(alloc, points, erased, parities)?;
+    let matrix = Matrix::new(size, size, cells);
+    let inverse = rows_of(alloc, &invert(alloc, &matrix)?, size)?;
+    know_bytes(inverse.as_slice());
+    Ok(DecodePlan {
+        points: Vec::from_slice(alloc, points)?,
+        width,
+        erased: Vec::from_slice(alloc, erased)?,
+        parities: Vec::from_slice(alloc, parities)?,
+        chosen: chosen_of(alloc, points, parities)?,
+        inverse,
+    })
+}
+
+// Tells that the bytes are below 256.
+fn know_bytes(bytes: &[u8])
+    ensures { (k : ℕ) → slice_index bytes.now k < 256 }
+{}
+
+// The points of these parities.
+fn chosen_of(alloc: Global, points: &[u8], parities: &[u32]) -> Result<Vec<u8>, Memory>
+    requires { (j : ℕ) → j < length parities.now → slice_index parities.now j < length points.now }
+    ensures { IfOk result (λ chosen. chosen.items ≡ map
+        (λ p. slice_index points.now p) parities.now) }
+{
+    let mut chosen = Vec::with_capacity(alloc, parities.len())?;
+    for p in parities {
+        chosen.push(points[*p as usize])?;
+    }
+    Ok(chosen)
+}
+
+// The cells of the matrix: a row for each parity, and a column for each erased place.
+fn cells_of(
+    alloc: Global,
+    points: &[u8],
+    erased: &[u32],
+    parities: &[u32],
+) -> Result<Vec<u8>, Memory>
+    requires { (j : ℕ) → j < length parities.now → slice_index parities.now j < length points.now }
+    ensures { IfOk result
+        (λ cells. HasRows (length erased.now) (length parities.now)
+        (entry points.now erased.now parities.now) cells.items) }
+{
+    let mut cells = Vec::new(alloc);
+    for p in parities {
+        push_powers(&mut cells, points[*p as usize], erased)?;
+    }
+    Ok(cells)
+}
+
+// Adds the powers of a point, one for each erased place.
+fn push_powers(cells: &mut Vec<u8>, point: u8, erased: &[u32]) -> Result<(), Memory>
+    ensures { OnOk result (cells.new.items ≡ cells.old.items ++ map
+        (λ t. power point t) erased.now) }
+{
+    for t in erased {
+        cells.push(pow(point, *t))?;
+    }
+    Ok(())
+}
+
+// The cells of a matrix, row by row.
+fn rows_of(alloc: Global, matrix: &Matrix, size: u32) -> Result<Vec<u8>, Memory>
+    requires { (matrix.now.rows ≡ size) × (matrix.now.columns ≡ size) }
+    ensures { IfOk result (λ cells. HasRows size size (cell_at matrix.now) cells.items) }
+{
+    let mut cells = Vec::new(alloc);
+    for row in 0..size {
+        push_row(&mut cells, matrix, row, size)?;
+    }
+    Ok(cells)
+}
+
+// Adds a row of a matrix.
+fn push_row(cells: &mut Vec<u8>, matrix: &Matrix, row: u32, size: u32) -> Result<(), Memory>
+    requires { (row < matrix.now.rows) × (matrix.now.columns ≡ size) }
+    ensures { OnOk result (cells.new.items ≡ cells.old.items ++ list_of size
+        (cell_at matrix.now row)) }
+{
+    for column in 0..size {
+        cells.push(matrix.at(row, column))?;
+    }
+    Ok(())
+}

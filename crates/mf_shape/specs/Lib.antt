@@ -1,0 +1,4 @@
+pub mod Stages
+pub mod Chain
+pub mod Faults
+pub mod Rules

@@ -1,0 +1,174 @@
+-- The names of one stripe lie on different servers.
+use Rattle.std.proofs.Common.{◌≡◌, ℕ, suc, zero, ◌+◌, ◌*◌, ◌/◌, ◌%◌, ◌<◌, ◌≤◌, length, ap, ◌∙◌, sym, ⊎_elim, arith}
+use Rattle.std.proofs.Math.Nat.{mul-le-mul_right, mod-lt, div-add-mod'}
+use Rattle.std.proofs.lemmas.Bool.{cases_lt}
+use Rattle.mf_shape.specs.Stages.{width_at, parities_at, copies_at, max_width, max_copied_width}
+use Rattle.mf_shape.proofs.Widths.{width_at-le-max_width, one-le-max_width}
+use Rattle.mf_places.specs.declared.Name.{Name}
+use Rattle.mf_places.specs.declared.Name.TheVariants as name
+use Rattle.mf_places.specs.Layout.{Layout, IsLayout, IsApart, Holds, stripe_of, column_of}
+use Rattle.mf_places.proofs.Held.{Holds-from, copies_at-le-first, parities_at-le-first, width_at-le-max_copied}
+
+-- numbers of one quotient are nearer than the divisor
+near : (i j k : ℕ) → 0 < k → i / k ≡ j / k → i < j + k
+near i j k pos e =
+    let at_i = div-add-mod' i k in
+    let at_j = div-add-mod' j k in
+    let low = mod-lt i pos in
+    let same : i / k * k ≡ j / k * k = ap (λ q. q * k) e in
+    omega arith
+
+-- numbers of one remainder that are nearer than the divisor are one
+quotient-le : (a b d : ℕ) → 0 < d → a % d ≡ b % d → b < a + d → b / d ≤ a / d
+quotient-le a b d pos e h = ⊎_elim
+    (λ less.
+    let more : suc (a / d) * d ≤ b / d * d = mul-le-mul_right d less in
+    let at_a = div-add-mod' a d in
+    let at_b = div-add-mod' b d in
+    absurd (omega arith))
+    (λ fine. fine)
+    (cases_lt (a / d) (b / d))
+
+same-mod : (a b d : ℕ) → 0 < d → a % d ≡ b % d → a < b + d → b < a + d → a ≡ b
+same-mod a b d pos e h k =
+    let low = quotient-le a b d pos e k in
+    let high = quotient-le b a d pos (sym e) h in
+    let same : a / d * d ≡ b / d * d = ap (λ q. q * d) (omega arith) in
+    let at_a = div-add-mod' a d in
+    let at_b = div-add-mod' b d in
+    omega arith
+
+-- copy e of chunk i (0 is the data itself) has this place, over the widest stripe
+abbrev place : ℕ → ℕ → ℕ → ℕ
+place copied i e = i + e * copied
+
+place-near : (copied k most i j e f : ℕ) → k ≤ copied → i < j + k → e ≤ most → place copied i e < place copied j f + (most + 1) * copied
+place-near copied k most i j e f narrow h few =
+    let more = mul-le-mul_right copied few in
+    omega arith
+
+copy-le : (copied k i j e f : ℕ) → k ≤ copied → j < i + k → place copied i e ≡ place copied j f → e ≤ f
+copy-le copied k i j e f narrow h same = ⊎_elim
+    (λ less.
+    let more : suc f * copied ≤ e * copied = mul-le-mul_right copied less in
+    absurd (omega arith))
+    (λ fine. fine)
+    (cases_lt f e)
+
+pub record IsOne (i j e f : ℕ) : Type 0 where
+  pub chunk : i ≡ j
+  pub copy : e ≡ f
+
+-- of chunks and copies in one stripe, no two have one column
+same-place : (copied k widest most i j e f : ℕ) → 0 < widest → k ≤ widest → (0 < most → k ≤ copied) → (0 < most → (most + 1) * copied ≤ widest)
+    → i < j + k → j < i + k → e ≤ most → f ≤ most
+    → place copied i e % widest ≡ place copied j f % widest → IsOne i j e f
+same-place copied k widest zero i j e f pos wide narrow room ij ji he hf same =
+    let e0 : e ≡ 0 = omega arith in
+    let f0 : f ≡ 0 = omega arith in
+    let at_i : place copied i e ≡ i = ap (place copied i) e0 ∙ omega arith in
+    let at_j : place copied j f ≡ j = ap (place copied j) f0 ∙ omega arith in
+    let rest : i % widest ≡ j % widest = ap (λ x. x % widest) (sym at_i) ∙ same ∙ ap (λ x. x % widest) at_j in
+    record { chunk = same-mod i j widest pos rest (omega arith) (omega arith); copy = e0 ∙ sym f0 }
+same-place copied k widest (suc most) i j e f pos wide narrow room ij ji he hf same =
+    let thin = narrow (omega arith) in
+    let fits = room (omega arith) in
+    let one = same-mod (place copied i e) (place copied j f) widest pos same
+    (omega (arith, place-near copied k (suc most) i j e f thin ij he))
+    (omega (arith, place-near copied k (suc most) j i f e thin ji hf)) in
+    let copy : e ≡ f = omega (arith, copy-le copied k i j e f thin ji one, copy-le copied k j i f e thin ij (sym one)) in
+    let moved : e * copied ≡ f * copied = ap (λ n. n * copied) copy in
+    record { chunk = omega arith; copy = copy }
+
+-- ---- what a shape says of generation g
+
+record Room (l : Layout) (g : ℕ) : Type 0 where
+  pub widest : 0 < max_width l.stages
+  pub width : 0 < width_at l.stages g
+  pub wide : width_at l.stages g ≤ max_width l.stages
+  pub narrow : 0 < copies_at l.stages g → width_at l.stages g ≤ max_copied_width l.stages
+  pub copies : 0 < copies_at l.stages g → (copies_at l.stages g + 1) * max_copied_width l.stages ≤ max_width l.stages
+  pub parities : parities_at l.stages g ≤ parities_at l.stages 0
+  pub servers : max_width l.stages + parities_at l.stages 0 ≤ l.servers
+
+room_for : (l : Layout) → IsLayout l → (g : ℕ) → g < length l.stages → Room l g
+room_for l layout g below =
+    let chain = layout.shape.chain in
+    let fewer = copies_at-le-first chain g below in
+    record {
+      widest = one-le-max_width chain;
+      width = (chain.widths g below).0;
+      wide = width_at-le-max_width l.stages g below;
+      narrow = width_at-le-max_copied l.stages g below;
+      copies = λ some.
+          let all = layout.shape.copies (omega arith) in
+          let more : (copies_at l.stages g + 1) * max_copied_width l.stages ≤ (copies_at l.stages 0 + 1) * max_copied_width l.stages = mul-le-mul_right (max_copied_width l.stages) (omega arith) in
+          omega arith;
+      parities = parities_at-le-first chain g below;
+      servers = layout.shape.servers.0;
+    }
+
+-- copy e of chunk i stands in this column
+column-data : (l : Layout) (i : ℕ) → column_of l (name.Data i) ≡ place (max_copied_width l.stages) i 0 % max_width l.stages
+column-data l i = ap (λ n. n % max_width l.stages) (omega arith)
+
+chunk-place : (l : Layout) (g : ℕ) → Room l g → (i j e f : ℕ) → i / width_at l.stages g ≡ j / width_at l.stages g → e ≤ copies_at l.stages g → f ≤ copies_at l.stages g
+    → place (max_copied_width l.stages) i e % max_width l.stages ≡ place (max_copied_width l.stages) j f % max_width l.stages → IsOne i j e f
+chunk-place l g room i j e f stripe he hf same =
+    same-place (max_copied_width l.stages) (width_at l.stages g) (max_width l.stages) (copies_at l.stages g) i j e f
+    room.widest room.wide room.narrow room.copies
+    (near i j (width_at l.stages g) room.width stripe) (near j i (width_at l.stages g) room.width (sym stripe)) he hf same
+
+-- the columns of one stripe are apart
+one-column : (l : Layout) (g : ℕ) → Room l g → (x y : Name) → Holds l g x → Holds l g y → stripe_of l g x ≡ stripe_of l g y → column_of l x ≡ column_of l y → x ≡ y
+one-column l g room (name.Data i) (name.Data j) hx hy stripe column =
+    let few : 0 ≤ copies_at l.stages g = omega arith in
+    let one = chunk-place l g room i j 0 0 stripe few few (sym (column-data l i) ∙ column ∙ column-data l j) in
+    ap (λ n. name.Data n) one.chunk
+one-column l g room (name.Data i) (name.Copy d j) hx hy stripe column =
+    let none : 0 ≤ copies_at l.stages g = omega arith in
+    let few : d + 1 ≤ copies_at l.stages g = omega (arith, hy.0) in
+    let one = chunk-place l g room i j 0 (d + 1) stripe none few (sym (column-data l i) ∙ column) in
+    absurd (omega (arith, one.copy))
+one-column l g room (name.Copy c i) (name.Data j) hx hy stripe column =
+    let none : 0 ≤ copies_at l.stages g = omega arith in
+    let few : c + 1 ≤ copies_at l.stages g = omega (arith, hx.0) in
+    let one = chunk-place l g room i j (c + 1) 0 stripe few none (column ∙ column-data l j) in
+    absurd (omega (arith, one.copy))
+one-column l g room (name.Copy c i) (name.Copy d j) hx hy stripe column =
+    let few_c : c + 1 ≤ copies_at l.stages g = omega (arith, hx.0) in
+    let few_d : d + 1 ≤ copies_at l.stages g = omega (arith, hy.0) in
+    let one = chunk-place l g room i j (c + 1) (d + 1) stripe few_c few_d column in
+    let copy : c ≡ d = omega (arith, one.copy) in
+    let chunk : i ≡ j = one.chunk in
+    cc
+one-column l g room (name.Data i) (name.Parity w j p) hx hy stripe column =
+    let low = mod-lt i room.widest in absurd (omega arith)
+one-column l g room (name.Copy c i) (name.Parity w j p) hx hy stripe column =
+    let low = mod-lt (i + (c + 1) * max_copied_width l.stages) room.widest in absurd (omega arith)
+one-column l g room (name.Parity w j p) (name.Data i) hx hy stripe column =
+    let low = mod-lt i room.widest in absurd (omega arith)
+one-column l g room (name.Parity w j p) (name.Copy c i) hx hy stripe column =
+    let low = mod-lt (i + (c + 1) * max_copied_width l.stages) room.widest in absurd (omega arith)
+one-column l g room (name.Parity w j p) (name.Parity v k r) hx hy stripe column =
+    let width : w ≡ v = hx.0 ∙ sym hy.0 in
+    let point : p ≡ r = omega arith in
+    cc
+
+-- a held name's column is one of the servers
+column-below : (l : Layout) (g : ℕ) → Room l g → (x : Name) → Holds l g x → column_of l x < l.servers
+column-below l g room (name.Data i) h = let low = mod-lt i room.widest in let fits = room.servers in omega arith
+column-below l g room (name.Copy c i) h = let low = mod-lt (i + (c + 1) * max_copied_width l.stages) room.widest in let fits = room.servers in omega arith
+column-below l g room (name.Parity w j p) h = let fits = room.servers in let few = room.parities in let mine = h.2 in omega arith
+
+pub IsApart-from : (l : Layout) → IsLayout l → (x : Name) → IsApart l x
+IsApart-from l layout x = record {
+  apart = λ g y below hx hy stripe server.
+      let room = room_for l layout g below in
+      let held_x = Holds-from l g x hx in
+      let held_y = Holds-from l g y hy in
+      let low_x = column-below l g room x held_x in
+      let low_y = column-below l g room y held_y in
+      let sum : l.file + column_of l x ≡ l.file + column_of l y = same-mod _ _ l.servers (omega arith) server (omega arith) (omega arith) in
+      one-column l g room x y held_x held_y stripe (omega arith);
+}

@@ -1,0 +1,4 @@
+pub mod Layout
+pub mod Rows
+pub mod Kept
+pub mod Stripe

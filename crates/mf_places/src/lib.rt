@@ -1,0 +1,346 @@
+//! The names of a file's chunks, their order, and the servers where they lie.
+#![tactic(auto)]
+
+ghost use Rattle.std.specs.Prelude.{◌≡◌, ℕ, ◌+◌, ◌*◌, ◌^◌, ◌<◌, ◌≤◌, ◌↔◌, length, filter, IsTrue, IsBitSet, IfOk, IfNone, IfSome, OnSome, Some};
+ghost use Rattle.std.specs.Int.{div_ceil};
+ghost use Rattle.mf_shape.specs.Stages.{stage_at, width_at, max_width, tolerance_at};
+ghost use Rattle.mf_places.specs.Layout.{HasPoints, HasName, IsLayout, IsApart, chunks_of, stripes_of, parities_of, count_of, name_at, holds, stripe_of, column_of, server_of};
+ghost use Rattle.mf_places.specs.Rows.{first_in, number_of, IsNumber};
+
+mod lists;
+mod rows;
+
+use mf_shape::{Shape, Stage};
+use rows::{first_numbers, greatest_parities};
+pub use std::alloc::AllocError as Memory;
+use std::alloc::Global;
+use std::marker::Model;
+
+/// The name of one chunk of a file.
+#[derive(Clone, Copy, Debug, PartialEq, Eq)]
+pub enum Name {
+    /// Chunk i of the file.
+    Data(u32),
+    /// Further copy c of chunk i.
+    Copy(u32, u32),
+    /// Parity p, the one with point p, of stripe j of a width, as `Parity(width, j, p)`.
+    Parity(u32, u32, u32),
+}
+
+/// A set of servers: bit s stands for server s.
+#[derive(Clone, Copy, Debug, PartialEq, Eq)]
+pub struct Servers {
+    pub bits: u128,
+}
+
+impl Servers {
+    /// Whether the server is in the set.
+    pub fn has(self, server: u32) -> bool
+        requires { server < 128 }
+        ensures { IsTrue result ↔ IsBitSet self.bits server }
+    {
+        (self.bits >> server) & 1 == 1
+    }
+}
+
+/// The names of one file, numbered in their order, and where each lies.
+///
+/// The order is: all data by chunk; then the copies, by copy and then chunk; then the parities, by
+/// width, then stripe, then point. At a width there are as many parities as the stage of that width
+/// with the most has.
+#[derive(Debug, Drop)]
+pub struct Book {
+    stages: Vec<Stage>,
+    servers: u32,
+    points: Vec<u8>,
+    chunk: u32,
+    file: u32,
+    bytes: u32,
+    // The number of the file's chunks.
+    chunks: u32,
+    // The greatest width, and the greatest width of a stage with copies.
+    widest: u32,
+    copied: u32,
+    // The number of the first parity of each width, and then the number of names.
+    firsts: Vec<u32>,
+}
+
+impl Model for Book {
+    ghost use Rattle.mf_places.specs.Layout.{Layout};
+
+    ghost Value = { Layout };
+
+    ghost use Rattle.mf_places.specs.Kept.{layout_of, IsKept};
+
+    ghost view = { layout_of };
+
+    ghost invariant = { IsKept };
+}
+
+impl Book {
+    /// The book of file number `file` of `length` bytes, in chunks of `chunk` bytes, whose family has
+    /// this shape and these points. The only error is want of memory.
+    pub fn new(
+        alloc: Global,
+        shape: &Shape,
+        points: &[u8],
+        chunk: u32,
+        file: u32,
+        length: u32,
+    ) -> Result<Book, Memory>
+        requires points { HasPoints shape.now.stages points.now }
+        requires chunk { (1 ≤ chunk) × (chunk ≤ 65536) }
+        requires file { file < 64 }
+        requires length { length ≤ 1048576 }
+        requires chunks { div_ceil length chunk ≤ 1024 }
+        ensures { IfOk result (λ book. book ≡ record {
+          stages = shape.now.stages;
+          servers = shape.now.servers;
+          points = points.now;
+          chunk = chunk;
+          file = file;
+          bytes = length;
+        }) }
+    {
+        let stages = shape.stages();
+        let chunks = length.div_ceil(chunk);
+        let widest = shape.widest();
+        let firsts = first_numbers(alloc, stages, chunks, widest)?;
+        Ok(Book {
+            stages: Vec::from_slice(alloc, stages)?,
+            servers: shape.servers(),
+            points: Vec::from_slice(alloc, points)?,
+            chunk,
+            file,
+            bytes: length,
+            chunks,
+            widest,
+            copied: shape.widest_copied(),
+            firsts,
+        })
+    }
+
+    /// The points of the parities: parity p is the one with point p.
+    pub fn points(&self) -> &[u8]
+        ensures value { result.now ≡ self.now.points }
+        ensures kept { IsLayout self.now }
+    {
+        self.points.as_slice()
+    }
+
+    /// The number of stages.
+    pub fn stages(&self) -> u32
+        ensures value { result ≡ length self.now.stages }
+        ensures kept { IsLayout self.now }
+    {
+        self.stages.len() as u32
+    }
+
+    /// The bytes of a chunk.
+    pub fn chunk(&self) -> u32
+        ensures value { result ≡ self.now.chunk }
+        ensures kept { IsLayout self.now }
+    {
+        self.chunk
+    }
+
+    /// The length of the file in bytes.
+    pub fn length(&self) -> u32
+        ensures value { result ≡ self.now.bytes }
+        ensures kept { IsLayout self.now }
+    {
+        self.bytes
+    }
+
+    /// The number of the file's chunks.
+    pub fn chunks(&self) -> u32
+        ensures value { result ≡ chunks_of self.now }
+        ensures kept { IsLayout self.now }
+    {
+        self.chunks
+    }
+
+    /// The number of the file's names.
+    pub fn count(&self) -> u32
+        ensures value { result ≡ count_of self.now }
+        ensures kept { IsLayout self.now }
+    {
+        self.first(self.widest + 1)
+    }
+
+    /// Name number n.
+    pub fn name(&self, n: u32) -> Name
+        requires { n < count_of self.now }
+        ensures value { result ≡ name_at self.now n }
+        ensures had { HasName self.now result }
+    {
+        if n < self.chunks {
+            return Name::Data(n);
+        }
+        if n < self.first(0) {
+            let at = n - self.chunks;
+            return Name::Copy(at / self.chunks, at % self.chunks);
+        }
+        self.parity_name(n)
+    }
+
+    /// The number of a name, or None where the file has no chunk of that name.
+    pub fn number(&self, name: Name) -> Option<u32>
+        ensures none { IfNone result (HasName self.now name → ⊥) }
+        ensures some { IfSome result (λ n. (n < count_of self.now) × (name_at self.now n ≡ name)) }
+        ensures had { OnSome result (HasName self.now name) }
+        ensures only { (n : ℕ) → n < count_of self.now → name_at self.now n ≡ name → result ≡ Some n }
+    {
+        self.find(name)
+    }
+
+    /// The server of a name.
+    pub fn server(&self, name: Name) -> u32
+        requires { HasName self.now name }
+        ensures value { result ≡ server_of self.now name }
+        ensures within { result < self.now.servers }
+        ensures apart { IsApart self.now name }
+    {
+        (self.file + self.column(name)) % self.servers
+    }
+
+    /// Whether generation g holds the name.
+    pub fn holds(&self, g: u32, name: Name) -> bool
+        requires { g < length self.now.stages }
+        ensures { result ≡ holds self.now g name }
+    {
+        let stage = self.stage(g);
+        match name {
+            Name::Data(i) => i < self.chunks,
+            Name::Copy(c, i) => c < stage.copies && i < self.chunks,
+            Name::Parity(width, j, p) => width == stage.width
+                && j < self.chunks.div_ceil(stage.width)
+                && p < stage.parities,
+        }
+    }
+
+    /// How many lost names of one stripe generation g bears.
+    pub fn tolerance(&self, g: u32) -> u32
+        requires { g < length self.now.stages }
+        ensures { result ≡ tolerance_at self.now.stages g }
+    {
+        let stage = self.stage(g);
+        stage.copies + stage.parities
+    }
+
+    /// The number of stripes of generation g.
+    pub fn stripes(&self, g: u32) -> u32
+        requires { g < length self.now.stages }
+        ensures { result ≡ stripes_of self.now (width_at self.now.stages g) }
+    {
+        self.chunks.div_ceil(self.stage(g).width)
+    }
+
+    /// The stripe of generation g that a name which it holds belongs to.
+    pub fn stripe_of(&self, g: u32, name: Name) -> u32
+        requires stage { g < length self.now.stages }
+        requires held { IsTrue (holds self.now g name) }
+        ensures value { result ≡ stripe_of self.now g name }
+        ensures within { result < stripes_of self.now (width_at self.now.stages g) }
+    {
+        let stage = self.stage(g);
+        match name {
+            Name::Data(i) => i / stage.width,
+            Name::Copy(_, i) => i / stage.width,
+            Name::Parity(_, j, _) => j,
+        }
+    }
+
+    // Stage g.
+    fn stage(&self, g: u32) -> Stage
+        requires { g < length self.now.stages }
+        ensures value { result ≡ stage_at self.now.stages g }
+        ensures width { (1 ≤ result.width) × (result.width ≤ 64) }
+        ensures parities { result.parities ≤ 4 }
+        ensures copies { result.copies ≤ 2 }
+        ensures kept { IsLayout self.now }
+    {
+        self.stages[g as usize]
+    }
+
+    // The number of the first parity of a width, or of the first name that the file hasn't.
+    fn first(&self, width: u32) -> u32
+        requires { width ≤ max_width self.now.stages + 1 }
+        ensures value { result ≡ first_in (chunks_of self.now) self.now.stages width }
+        ensures bound { result ≤ 300000 }
+        ensures kept { IsLayout self.now }
+    {
+        self.firsts[width as usize]
+    }
+
+    // How many parities a stripe of the width has.
+    fn parities(&self, width: u32) -> u32
+        ensures value { result ≡ parities_of self.now width }
+        ensures bound { result ≤ 4 }
+    {
+        greatest_parities(self.stages.as_slice(), width)
+    }
+
+    // The column of a name.
+    fn column(&self, name: Name) -> u32
+        requires { HasName self.now name }
+        ensures value { result ≡ column_of self.now name }
+        ensures bound { result ≤ 68 }
+    {
+        match name {
+            Name::Data(i) => i % self.widest,
+            Name::Copy(c, i) => (i + (c + 1) * self.copied) % self.widest,
+            Name::Parity(_, _, p) => self.widest + p,
+        }
+    }
+
+    // The number that a name has, if the file has it.
+    fn find(&self, name: Name) -> Option<u32>
+        ensures none { IfNone result (HasName self.now name → ⊥) }
+        ensures some { IfSome result (IsNumber self.now name) }
+    {
+        match name {
+            Name::Data(i) => { if i < self.chunks { Some(i) } else { None } }
+            Name::Copy(c, i) => {
+                if c < self.stage(0).copies && i < self.chunks {
+                    Some(self.chunks + c * self.chunks + i)
+                } else {
+                    None
+                }
+            }
+            Name::Parity(width, j, p) => self.parity_number(width, j, p),
+        }
+    }
+
+    // The name of a parity by its number.
+    fn parity_name(&self, n: u32) -> Name
+        requires from { first_in (chunks_of self.now) self.now.stages 0 ≤ n }
+        requires below { n < count_of self.now }
+        ensures had { HasName self.now result }
+        ensures number { number_of self.now result ≡ n }
+    {
+        let mut width = 0;
+        while self.first(width + 1) <= n {
+            width += 1;
+        }
+        let parities = self.parities(width);
+        let at = n - self.first(width);
+        Name::Parity(width, at / parities, at % parities)
+    }
+
+    // The number of a parity.
+    fn parity_number(&self, width: u32, j: u32, p: u32) -> Option<u32>
+        ensures none { IfNone result (HasName self.now (Name.Parity width j p) → ⊥) }
+        ensures some { IfSome result (IsNumber self.now (Name.Parity width j p)) }
+    {
+        let parities = self.parities(width);
+        if p < parities && j < self.chunks.div_ceil(width) {
+            Some(self.first(width) + j * parities + p)
+        } else {
+            None
+        }
+    }
+}
+
+#[cfg(test)]
+mod tests;

@@ -1,0 +1,4 @@
+pub mod Orders
+pub mod Shifts
+pub mod Parts
+pub mod Stages

@@ -1,0 +1,178 @@
+-- The parts of a set of places, and the matrix of its erasure.
+use Rattle.std.proofs.Common.{◌≡◌, ◌≢◌, ℕ, suc, ◌+◌, ◌-◌, ◌*◌, ◌<◌, ◌≤◌, inl, inr, cond, eqb, List, [], ◌∷◌, ◌++◌, length, map, take, drop, get_or, refl, sym, ap, ap₂, subst, ◌∙◌, arith, append_assoc, append-nil}
+use Rattle.std.proofs.lemmas.Bool.{cases_lt}
+use Rattle.std.proofs.lemmas.Bool.Decides.{eqb_tells}
+use Rattle.std.proofs.lemmas.List.{get_or_past, take_at, drop_at, get_or_append_left, get_or-append-add, drop_more, drop_all, get_or-map}
+use Rattle.mf_rules.specs.Field.{times}
+use Rattle.mf_rules.specs.Decodable.{IsPlaceSet}
+use Rattle.mf_rules.proofs.Sums.{sum_below-same}
+use Rattle.mf_erasure.specs.Erasure.{entry, OnlyZero, others_from, places_of, Splits}
+use Rattle.mf_erasure.proofs.Places.{erasure_of_set, length-places_of}
+use Rattle.mf_matrix.specs.Tables.{IsTable, IsInverse, IsKernel, IsFirstDependent, DependsOnEarlier}
+use Rattle.mf_matrix.specs.Matrix.{Grid}
+use Rattle.mf_matrix.specs.Matrix.{entry as cell}
+use Rattle.mf_matrix.proofs.Inverses.{zero_from_inverse}
+use Rattle.mf_check.specs.Sets.{IsDataFront}
+
+-- the parities of the places from `next` on
+abbrev pub gone_from : ℕ → ℕ → List ℕ → List ℕ
+gone_from width next places = map (λ place. place - width) (drop next places)
+
+-- the parity p is the next one of the places
+pub next_gone : (width p n next : ℕ) (places : List ℕ) → next < length places → get_or places next 0 ≡ width + p
+    → others_from p (suc n) (gone_from width next places) ≡ others_from (p + 1) n (gone_from width (next + 1) places)
+unfolding others_from
+next_gone width p n next places lt at =
+    ap (λ (l : List ℕ). others_from p (suc n) (map (λ place. place - width) l)) (drop_more places next 0 lt)
+    ∙ same (get_or places next 0 - width) (gone_from width (next + 1) places) (let e : get_or places next 0 - width ≡ p = omega arith in e)
+  where
+    same : (one : ℕ) (ones : List ℕ) → one ≡ p → cond (eqb one p) (others_from (p + 1) n ones) (p ∷ others_from (p + 1) n (one ∷ ones)) ≡ others_from (p + 1) n ones
+    same one ones e = elim (eqb_tells one p) [ inl t ↦ ap (λ b. cond b (others_from (p + 1) n ones) (p ∷ others_from (p + 1) n (one ∷ ones))) t.0 | inr f ↦ absurd (f.1 e) ]
+
+-- the parity p is not the next one of the places, so it is kept
+pub next_kept : (width p n next : ℕ) (places : List ℕ) → (next < length places → width ≤ get_or places next 0) → (next < length places → get_or places next 0 ≢ width + p)
+    → others_from p (suc n) (gone_from width next places) ≡ p ∷ others_from (p + 1) n (gone_from width next places)
+unfolding others_from
+next_kept width p n next places high other = elim (cases_lt next (length places)) [
+  | inl lt ↦
+      let one = get_or places next 0 - width in
+      let ones = gone_from width (next + 1) places in
+      let is : gone_from width next places ≡ one ∷ ones = ap (map (λ place. place - width)) (drop_more places next 0 lt) in
+      ap (others_from p (suc n)) is
+      ∙ differ one ones (λ e. other lt (let h = high lt in let g : get_or places next 0 ≡ width + p = omega arith in g))
+      ∙ ap (λ (l : List ℕ). p ∷ others_from (p + 1) n l) (sym is)
+  | inr past ↦
+      let is : gone_from width next places ≡ [] = ap (map (λ place. place - width)) (drop_all next places past) in
+      ap (others_from p (suc n)) is ∙ ap (λ (l : List ℕ). p ∷ others_from (p + 1) n l) (sym is)
+]
+  where
+    differ : (one : ℕ) (ones : List ℕ) → one ≢ p → cond (eqb one p) (others_from (p + 1) n ones) (p ∷ others_from (p + 1) n (one ∷ ones)) ≡ p ∷ others_from (p + 1) n (one ∷ ones)
+    differ one ones d = elim (eqb_tells one p) [ inl t ↦ absurd (d t.1) | inr f ↦ ap (λ b. cond b (others_from (p + 1) n ones) (p ∷ others_from (p + 1) n (one ∷ ones))) f.0 ]
+
+raised_and_lowered : (width : ℕ) (gone : List ℕ) → map (λ place. place - width) (map (λ p. width + p) gone) ≡ gone
+raised_and_lowered width [] = refl
+raised_and_lowered width (p ∷ gone) = ap₂ (λ (x : ℕ) (xs : List ℕ). x ∷ xs) (let e : width + p - width ≡ p = omega arith in e) (raised_and_lowered width gone)
+
+-- the front of data places is the list of lost ones
+front_is_lost : (width : ℕ) (places lost gone : List ℕ) (e : ℕ) → places ≡ places_of width lost gone → ((i : ℕ) → i < length lost → get_or lost i 0 < width)
+    → IsDataFront width places e → e ≡ length lost
+front_is_lost width places lost gone e made low front =
+    let len : length places ≡ length lost + length gone = ap length made ∙ length-places_of width lost gone in
+    elim (cases_lt e (length lost)) [
+      | inl short ↦ (
+          let within : e < length places = omega arith in
+          let h = front.others within in
+          let at : get_or places e 0 ≡ get_or lost e 0 = ap (λ (l : List ℕ). get_or l e 0) made ∙ get_or_append_left lost (map (λ p. width + p) gone) 0 e short in
+          let b = low e short in absurd (omega arith))
+      | inr le ↦ elim (cases_lt (length lost) e) [
+        | inl long ↦ (
+            let within = front.within in
+            let some : 0 < length gone = omega arith in
+            let h = front.data_places (length lost) long in
+            let at : get_or places (length lost) 0 ≡ width + get_or gone 0 0 =
+            ap (λ (l : List ℕ). get_or l (length lost) 0) made
+            ∙ ap (λ (m : ℕ). get_or (lost ++ map (λ p. width + p) gone) m 0) (let z : length lost ≡ length lost + 0 = omega arith in z)
+            ∙ get_or-append-add lost (map (λ p. width + p) gone) 0 0
+            ∙ get_or-map (λ p. width + p) gone 0 0 0 some in
+            absurd (omega arith))
+        | inr ge ↦ (let s : e ≡ length lost = omega arith in s)
+      ]
+    ]
+
+-- the parts of a set as the code takes it apart
+pub Splits-of_front : (width count : ℕ) (places : List ℕ) (e : ℕ) → IsPlaceSet (width + count) count places → IsDataFront width places e
+    → Splits width count places (take e places) (others_from 0 count (gone_from width e places))
+Splits-of_front width count places e set front =
+    let parts = erasure_of_set width count places set in
+    let lost = parts.0 in
+    let gone = parts.1 in
+    let made = parts.2 in
+    let splits : Splits width count places lost (others_from 0 count gone) = parts.3 in
+    let e_is : e ≡ length lost = front_is_lost width places lost gone e made (λ i l. splits.erasure.lost_places.below i 0 l) front in
+    let front_of : take e places ≡ lost = ap₂ (λ (n : ℕ) (l : List ℕ). take n l) e_is made ∙ take_at lost (map (λ p. width + p) gone) (length lost) refl in
+    let back : gone_from width e places ≡ gone =
+    ap₂ (λ (n : ℕ) (l : List ℕ). map (λ place. place - width) (drop n l)) e_is made
+    ∙ ap (map (λ place. place - width)) (drop_at lost (map (λ p. width + p) gone) (length lost) refl)
+    ∙ raised_and_lowered width gone in
+    subst (λ (l : List ℕ). Splits width count places l (others_from 0 count (gone_from width e places))) (sym front_of)
+    (subst (λ (l : List ℕ). Splits width count places lost (others_from 0 count l)) (sym back) splits)
+
+-- a table with an inverse sends only zeros to zero, and so does one with the same entries
+pub OnlyZero-from_inverse : (n : ℕ) (m a b : ℕ → ℕ → ℕ) → ((i j : ℕ) → i < n → j < n → a i j ≡ m i j) → IsTable a → IsInverse n a b → OnlyZero n m
+OnlyZero-from_inverse n m a b same la inverse x lx rows j lj =
+    zero_from_inverse n a b x la inverse.bytes lx inverse.on_the_left
+    (λ i li. sum_below-same n (λ k. times (a i k) (x k)) (λ k. times (m i k) (x k)) (λ k lk. ap (λ v. times v (x k)) (same i k li lk)) ∙ rows i li)
+    j lj
+
+-- a kernel list shows that a table sends more than zeros to zero
+pub not_OnlyZero-from_kernel : (n : ℕ) (m : ℕ → ℕ → ℕ) (x : List ℕ) → IsKernel n m x → OnlyZero n m → ⊥
+not_OnlyZero-from_kernel n m x k only =
+    let one = k.begins_with_one in
+    let len = k.len in
+    elim (cases_lt one.0 n) [
+      | inl lt ↦ (let z : get_or x one.0 0 ≡ 0 = only (λ j. get_or x j 0) k.bytes k.to_zero one.0 lt in let o : get_or x one.0 0 ≡ 1 = one.1 in absurd (omega arith))
+      | inr past ↦ (let z : get_or x one.0 0 ≡ 0 = get_or_past x one.0 0 (let h : length x ≤ one.0 = omega arith in h) in let o : get_or x one.0 0 ≡ 1 = one.1 in absurd (omega arith))
+    ]
+
+-- tables with the same entries have the same kernel list
+pub IsKernel-same : (n : ℕ) (a m : ℕ → ℕ → ℕ) (x : List ℕ) → ((i j : ℕ) → i < n → j < n → a i j ≡ m i j) → IsKernel n a x → IsKernel n m x
+IsKernel-same n a m x same k = record {
+  len = k.len;
+  bytes = k.bytes;
+  to_zero = λ i li. sum_below-same n (λ j. times (m i j) (get_or x j 0)) (λ j. times (a i j) (get_or x j 0)) (λ j lj. ap (λ v. times v (get_or x j 0)) (sym (same i j li lj))) ∙ k.to_zero i li;
+  zero_after = (k.zero_after.0, first_same k.zero_after.1, k.zero_after.2);
+  begins_with_one = k.begins_with_one;
+}
+  where
+    depends_same : (p q : ℕ → ℕ → ℕ) → ((i j : ℕ) → i < n → j < n → p i j ≡ q i j) → (c : ℕ) → c < n → DependsOnEarlier n p c → DependsOnEarlier n q c
+    depends_same p q eq c lc (w, lw, dep) = (
+      w,
+      lw,
+      λ i li. sym (eq i c li lc) ∙ dep i li
+          ∙ sum_below-same c (λ j. times (p i j) (w j)) (λ j. times (q i j) (w j)) (λ j lj. ap (λ v. times v (w j)) (eq i j li (omega arith))),
+    )
+
+    first_same : {c : ℕ} → IsFirstDependent n a c → IsFirstDependent n m c
+    first_same {c} f = record {
+      within = f.within;
+      depends = depends_same a m same c f.within f.depends;
+      first = λ d ld dep. f.first d ld (depends_same m a (λ i j li lj. sym (same i j li lj)) d (let h = f.within in let g : d < n = omega arith in g) dep);
+    }
+
+-- one parity more that is gone, or kept
+pub gone_step : (width p count next : ℕ) (places kept whole : List ℕ) → p < count → next < length places → get_or places next 0 ≡ width + p
+    → kept ++ others_from p (count - p) (gone_from width next places) ≡ whole → kept ++ others_from (p + 1) (count - (p + 1)) (gone_from width (next + 1) places) ≡ whole
+gone_step width p count next places kept whole lp lt at so_far =
+    ap (λ (l : List ℕ). kept ++ l)
+    (sym (next_gone width p (count - (p + 1)) next places lt at)
+    ∙ ap (λ (n : ℕ). others_from p n (gone_from width next places)) (let e : suc (count - (p + 1)) ≡ count - p = omega arith in e))
+    ∙ so_far
+
+pub kept_step : (width p count next : ℕ) (places kept whole : List ℕ) → p < count → (next < length places → width ≤ get_or places next 0)
+    → (next < length places → get_or places next 0 ≢ width + p)
+    → kept ++ others_from p (count - p) (gone_from width next places) ≡ whole → (kept ++ p ∷ []) ++ others_from (p + 1) (count - (p + 1)) (gone_from width next places) ≡ whole
+kept_step width p count next places kept whole lp high other so_far =
+    append_assoc kept (p ∷ []) (others_from (p + 1) (count - (p + 1)) (gone_from width next places))
+    ∙ ap (λ (l : List ℕ). kept ++ l)
+    (sym (next_kept width p (count - (p + 1)) next places high other)
+    ∙ ap (λ (n : ℕ). others_from p n (gone_from width next places)) (let e : suc (count - (p + 1)) ≡ count - p = omega arith in e))
+    ∙ so_far
+
+-- no parity is left
+pub all_kept : (width p count next : ℕ) (places kept whole : List ℕ) → count ≤ p
+    → kept ++ others_from p (count - p) (gone_from width next places) ≡ whole → kept ≡ whole
+unfolding others_from
+all_kept width p count next places kept whole le so_far =
+    sym (append-nil kept)
+    ∙ ap (λ (n : ℕ). kept ++ others_from p n (gone_from width next places)) (let e : 0 ≡ count - p = omega arith in e)
+    ∙ so_far
+
+-- the matrix that the code makes has the entries of the erasure
+pub same_entries : (g : Grid) (e : ℕ) (cells points lost kept read : List ℕ) → g ≡ record { rows = e; columns = e; cells = cells } → length lost ≡ e → length read ≡ e → read ≡ kept
+    → ((i j : ℕ) → i < length read → j < length lost → get_or cells (i * length lost + j) 0 ≡ entry points lost read i j)
+    → (i j : ℕ) → i < length lost → j < length lost → cell g i j ≡ entry points lost kept i j
+same_entries g e cells points lost kept read made lost_len read_len same at i j li lj =
+    ap (λ (m : Grid). get_or m.cells (i * m.columns + j) 0) made
+    ∙ ap (λ (n : ℕ). get_or cells (i * n + j) 0) (sym lost_len)
+    ∙ at i j (omega arith) lj
+    ∙ ap (λ (l : List ℕ). entry points lost l i j) same

@@ -1,0 +1,211 @@
+//! Families of codes: a chain of stages over one list of points, at each stage of which every set of
+//! as many places as there are parities is decodable.
+#![tactic(auto)]
+
+ghost use Rattle.std.specs.Prelude.{◌≡◌, ℕ, ◌<◌, length, IfOk, IfErr, MatchOption};
+ghost use Rattle.mf_shape.specs.Chain.{IsShape};
+ghost use Rattle.mf_shape.specs.Stages.{parities_at};
+ghost use Rattle.mf_check.specs.Families.{IsCode, IsFamily, ArePoints, IsStageDecodable};
+ghost use Rattle.mf_check.specs.Faults.{IsFault, IsStageFault};
+
+mod points;
+mod search;
+mod sets;
+
+use mf_matrix::KernelList;
+use mf_shape::Shape;
+use points::point_fault;
+use search::first_undecodable;
+use std::alloc::{AllocError, Global};
+use std::clone::Clone;
+use std::marker::Model;
+
+/// A set of places in ascending order: data places below the width, and the place width + p for
+/// parity p.
+#[derive(Debug, Drop)]
+pub struct Places {
+    items: Vec<u32>,
+}
+
+impl Model for Places {
+    ghost use Rattle.std.specs.Prelude.{List, ℕ};
+
+    ghost Value = { List ℕ };
+
+    ghost view = { λ places. places.items.items };
+}
+
+impl Places {
+    /// The places, in ascending order.
+    pub fn as_slice(&self) -> &[u32]
+        ensures { result.now ≡ self.now }
+    {
+        self.items.as_slice()
+    }
+}
+
+/// Why a shape and points are no family.
+#[derive(Debug, Drop)]
+pub enum FamilyFault {
+    /// There are this many points, and not as many as stage 0 has parities.
+    PointCount(u32),
+    /// The point of this number is 0, and none before it is.
+    PointZero(u32),
+    /// The points of these two numbers are equal. It is the first such pair.
+    PointTwice(u32, u32),
+    /// This is the least stage with a set of places that isn't decodable, its first such set, and the
+    /// kernel list of that set: one entry for each data place, and zero in every surviving parity.
+    Undecodable {
+        stage: u32,
+        places: Places,
+        kernel: KernelList,
+    },
+    /// Memory ran out.
+    Memory,
+}
+
+/// A shape and points at which every stage is decodable.
+#[derive(Debug, Drop)]
+pub struct Family {
+    shape: Shape,
+    points: Vec<u8>,
+}
+
+impl Model for Family {
+    ghost use Rattle.mf_check.specs.Families.{Code, IsCode};
+
+    ghost Value = { Code };
+
+    ghost view = { λ family. record { shape = family.shape; points = family.points.items } };
+
+    ghost invariant = { λ family. IsCode (record { shape = family.shape; points = family.points.items }) };
+}
+
+impl Family {
+    /// The shape.
+    pub fn shape(&self) -> &Shape
+        ensures value { result.now ≡ self.now.shape }
+        ensures kept { IsCode self.now }
+    {
+        &self.shape
+    }
+
+    /// The points, one for each parity of stage 0.
+    pub fn points(&self) -> &[u8]
+        ensures value { result.now ≡ self.now.points }
+        ensures kept { IsCode self.now }
+    {
+        self.points.as_slice()
+    }
+}
+
+/// The first stage that isn't decodable, as a fault.
+fn stage_fault(alloc: Global, shape: &Shape, points: &[u8]) -> Option<FamilyFault>
+    requires shape { IsShape shape.now }
+    requires points { ArePoints (parities_at shape.now.stages 0) points.now }
+    ensures { MatchOption result
+        ((g : ℕ) → g < length shape.now.stages → IsStageDecodable shape.now.stages points.now g)
+        (IsStageFault shape.now.stages points.now) }
+{
+    let stages = shape.stages();
+    for g in 0..stages.len() {
+        let stage = stages[g];
+        match first_undecodable(alloc, &points[..stage.parities as usize], stage.width) {
+            Ok(None) => {}
+            Ok(Some((items, kernel))) => {
+                return Some(FamilyFault::Undecodable {
+                    stage: g as u32,
+                    places: Places { items },
+                    kernel,
+                });
+            }
+            Err(_) => return Some(FamilyFault::Memory),
+        }
+    }
+    None
+}
+
+/// A copy of the shape and the points.
+fn copied(alloc: Global, shape: &Shape, points: &[u8]) -> Result<Family, AllocError>
+    requires shape { IsShape shape.now }
+    requires points { IsFamily shape.now.stages points.now }
+    ensures { IfOk result (λ family. family ≡ record { shape = shape.now; points = points.now }) }
+{
+    Ok(Family {
+        shape: shape.clone()?,
+        points: Vec::from_slice(alloc, points)?,
+    })
+}
+
+/// The family of this shape and these points, or the first fault.
+///
+/// The points are looked at first: their number, then zeros, then equal pairs. Then stage after stage
+/// each set of places is tried, in their order. Memory may run out at any point.
+pub fn check(alloc: Global, shape: &Shape, points: &[u8]) -> Result<Family, FamilyFault>
+    ensures family { IfOk result (λ family. (family ≡ record { shape = shape.now; points = points.now }) × IsCode family) }
+    ensures fault { IfErr result (IsFault shape.now.stages points.now) }
+{
+    let count = shape.stages()[0].parities;
+    if let Some(fault) = point_fault(points, count) {
+        return Err(fault);
+    }
+    if let Some(fault) = stage_fault(alloc, shape, points) {
+        return Err(fault);
+    }
+    match copied(alloc, shape, points) {
+        Ok(family) => Ok(family),
+        Err(_) => Err(FamilyFault::Memory),
+    }
+}
+
+#[cfg(test)]
+mod tests {
+    use super::*;
+    use mf_shape::Stage;
+    use std::test::Fail;
+
+    /// What `check` says of one stage of this width, with so many parities, and these points.
+    fn answer(alloc: Global, width: u32, parities: u32, points: &[u8]) -> Result<String, Fail> {
+        let stages = [Stage {
+            width,
+            parities,
+            copies: 0,
+        }];
+        let Ok(shape) = Shape::new(alloc, &stages, 128) else {
+            return Err(AllocError.into());
+        };
+        match check(alloc, &shape, points) {
+            Ok(family) => Ok(format!(in alloc; "family of points {:?}", family.points())?),
+            Err(
+                FamilyFault::Undecodable {
+                    stage,
+                    places,
+                    kernel,
+                },
+            ) => Ok(format!(in alloc;
+                "undecodable {stage} places {:?} kernel {:?}",
+                places.as_slice(),
+                kernel.as_slice()
+            )?),
+            Err(fault) => Ok(format!(in alloc; "{fault:?}")?),
+        }
+    }
+
+    #[test]
+    fn families_and_faults(rt: HostRuntime) -> Result<(), Fail> {
+        let family = answer(rt.alloc(), 21, 4, &[1, 2, 4, 8])?;
+        assert_eq!(rt; family.as_str(), "family of points [1, 2, 4, 8]");
+        let undecodable = answer(rt.alloc(), 22, 4, &[1, 2, 4, 8])?;
+        assert_eq!(rt;
+            undecodable.as_str(),
+            "undecodable 0 places [0, 10, 21, 24] kernel [1, 116, 117]"
+        );
+        let twice = answer(rt.alloc(), 2, 2, &[3, 3])?;
+        assert_eq!(rt; twice.as_str(), "PointTwice(0, 1)");
+        let zero = answer(rt.alloc(), 2, 2, &[0, 1])?;
+        assert_eq!(rt; zero.as_str(), "PointZero(0)");
+        let few = answer(rt.alloc(), 2, 2, &[1])?;
+        assert_eq!(rt; few.as_str(), "PointCount(1)");
+        Ok(())
+    }
+}

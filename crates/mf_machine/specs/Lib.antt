@@ -1,0 +1,13 @@
+pub mod Counts
+pub mod File
+pub mod Actors
+pub mod Rows
+pub mod Answers
+pub mod Sums
+pub mod Ruled
+pub mod Rest
+pub mod May
+pub mod Moves
+pub mod Kept
+pub mod Laws
+pub mod Exhibits

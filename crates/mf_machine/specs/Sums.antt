@@ -1,0 +1,133 @@
+-- What each actor adds to the tally of a file, and the tally.
+use Rattle.std.specs.Prelude.{ℕ, ◌+◌, leb, List}
+use Rattle.mf_machine.specs.declared.view.View.{View}
+use Rattle.mf_machine.specs.Actors.{has, live}
+use Rattle.mf_machine.specs.Counts.{bit, truth, times, losses, lines, total, all_begun, all_opened}
+use Rattle.mf_machine.specs.File.{Opening}
+
+abbrev pub right_of : View → ℕ
+right_of v = v.build.right
+
+abbrev pub share_of : View → ℕ
+share_of v = v.share
+
+-- its pins that fell on g once it was closed, and all its pins on g
+abbrev pub stray : ℕ → View → ℕ
+stray g v = times g v.strays
+
+abbrev pub pins : ℕ → View → ℕ
+pins g v = live g v + stray g v
+
+-- how often it published n, and closed g
+abbrev pub publishings : ℕ → View → ℕ
+publishings n v = times n v.made.numbers
+
+abbrev pub closings : ℕ → View → ℕ
+closings g v = times g v.made.closings
+
+-- how often it put, lost, restored and dropped the name
+abbrev pub puts : ℕ → View → ℕ
+puts n v = times n v.made.changes.put
+
+abbrev pub loses : ℕ → View → ℕ
+loses n v = losses n v.made.changes.lost
+
+abbrev pub loses_by : ℕ → ℕ → View → ℕ
+loses_by n l v = lines n l v.made.changes.lost
+
+abbrev pub restores : ℕ → View → ℕ
+restores n v = times n v.made.changes.restored
+
+abbrev pub drops : ℕ → View → ℕ
+drops n v = times n v.made.changes.dropped
+
+-- 1 where it is inside a get, birth, retake, lose or drop of the name
+abbrev pub in_get : ℕ → View → ℕ
+in_get n v = has n v.inside.getting
+
+abbrev pub in_birth : ℕ → View → ℕ
+in_birth n v = has n v.inside.bearing
+
+abbrev pub in_retake : ℕ → View → ℕ
+in_retake n v = has n v.inside.retaking
+
+abbrev pub in_lose : ℕ → View → ℕ
+in_lose n v = has n v.inside.losing
+
+abbrev pub in_drop : ℕ → View → ℕ
+in_drop n v = has n v.inside.dropping
+
+-- the begins answered true, and the pins made on an open g, in all its Mets
+abbrev pub begun_of : View → ℕ
+begun_of v = v.own.begun + all_begun v.gone
+
+abbrev pub opened_of : ℕ → View → ℕ
+opened_of g v = times g v.own.opened + all_opened g v.gone
+
+-- what makes a name Here, what makes it not Here, and what takes it away for a while
+abbrev pub raises : ℕ → View → ℕ
+raises n v = puts n v + restores n v + in_birth n v + in_retake n v
+
+abbrev pub sinks : ℕ → View → ℕ
+sinks n v = loses n v + drops n v
+
+abbrev pub hides : ℕ → View → ℕ
+hides n v = loses n v + drops n v + in_lose n v + in_drop n v
+
+-- the words of a name: 0 Unborn, 1 Here, 2 Taken, 3 Dropped, 4 + line for Lost
+abbrev pub lost_bit : ℕ → ℕ
+lost_bit w = truth (leb 4 w)
+
+-- the tally: sums over the opening and all actors, of which none ever falls
+pub record Tally : Type 0 where
+  -- how often the number was published, the opening's included
+  pub heard : ℕ → ℕ
+  -- how often the generation was closed
+  pub shuts : ℕ → ℕ
+  -- how often the name was lost with this line
+  pub lost_by : ℕ → ℕ → ℕ
+  -- what can have made the name Here
+  pub raised : ℕ → ℕ
+  -- what can have made a lose find nothing, and a discard
+  pub sunk : ℕ → ℕ
+  pub hidden : ℕ → ℕ
+  -- the begins answered true, and the pins made on an open g
+  pub begun : ℕ
+  pub opened : ℕ → ℕ
+
+abbrev pub tally : Opening → List View → Tally
+tally k vs = record {
+  heard = λ m. bit k.number m + total (publishings m) vs;
+  shuts = λ g. truth (k.closed g) + total (closings g) vs;
+  lost_by = λ n l. bit (k.name n) (4 + l) + total (loses_by n l) vs;
+  raised = λ n. bit (k.name n) 1 + total (raises n) vs;
+  sunk = λ n. bit (k.name n) 0 + bit (k.name n) 3 + lost_bit (k.name n) + total (sinks n) vs;
+  hidden = λ n. bit (k.name n) 0 + bit (k.name n) 3 + total (hides n) vs;
+  begun = total begun_of vs;
+  opened = λ g. total (opened_of g) vs;
+}
+
+-- the sums of one name
+pub record Counts : Type 0 where
+  pub in_get : ℕ
+  pub in_birth : ℕ
+  pub in_retake : ℕ
+  pub in_lose : ℕ
+  pub in_drop : ℕ
+  pub puts : ℕ
+  pub loses : ℕ
+  pub restores : ℕ
+  pub drops : ℕ
+
+abbrev pub counts : ℕ → List View → Counts
+counts n vs = record {
+  in_get = total (in_get n) vs;
+  in_birth = total (in_birth n) vs;
+  in_retake = total (in_retake n) vs;
+  in_lose = total (in_lose n) vs;
+  in_drop = total (in_drop n) vs;
+  puts = total (puts n) vs;
+  loses = total (loses n) vs;
+  restores = total (restores n) vs;
+  drops = total (drops n) vs;
+}

@@ -1,0 +1,13 @@
+//! The file machine: the state of one file, the steps of its actors, the rules that hold of it, and the law that every
+//! step keeps them. Nothing of it runs: these are the definitions that the table of atomic words and the accesses are
+//! proved against.
+#![tactic(auto)]
+
+mod law;
+mod view;
+
+pub use law::{
+    account_adds_up, answers_tell, causes_lead_back, last_brings_back, no_rule_is_empty,
+    notes_are_true, only_grows, pinned_stays, rest_is_kept, rules_are_kept,
+};
+pub use view::{Build, Changes, Inside, Loss, Made, Met, Refusal, Seen, Slot, Step, View};

@@ -1,0 +1,11 @@
+//! The report's language: counts, places, commands, outcomes and refusals, each with its one text.
+#![tactic(auto)]
+
+mod counts;
+mod outcomes;
+mod places;
+
+pub use counts::{Io, push_number};
+pub use outcomes::Outcome;
+pub use places::Place;
+pub use std::alloc::AllocError as Memory;

@@ -1,0 +1,12 @@
+use Rattle.std.proofs.Common.{◌≡◌, ◌++◌, ◌∷◌, [], map, take}
+use Rattle.std.specs.Prelude.{codes}
+use Rattle.std.specs.List.{flat_map}
+use Rattle.mf_script.specs.Drafts.{file_at, clients_of, commands_of}
+use Rattle.mf_script.specs.Forms.{client_line, phase_line}
+use Rattle.mf_script.specs.Printing.{stage_form, file_form, command_form, client_forms, phase_forms}
+use Rattle.mf_script.specs.Texts.{next_line, lines_text, names_in}
+use Rattle.mf_script.proofs.TextLemmas.{spaced}
+use Rattle.mf_script.proofs.printing.push_phase.Given as goal
+
+abbrev pub invariant-loop-client : goal.invariant-loop-client
+invariant-loop-client l = l.out.items ≡ l.fn.out.items ++ lines_text (names_in l.files) (phase_forms (commands_of (take l.client-index l.clients)))

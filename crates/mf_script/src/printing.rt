@@ -1,0 +1,216 @@
+//! The text of a script, written line by line.
+
+ghost use Rattle.std.specs.Prelude.{◌≡◌, ◌∷◌, ◌++◌, [], map, IfOk, OnOk};
+ghost use Rattle.std.specs.List.{flat_map};
+ghost use Rattle.mf_text.specs.Decimal.{decimal_text};
+ghost use Rattle.mf_script.specs.Forms.{servers_line, chunk_line, points_line, file_line};
+ghost use Rattle.mf_script.specs.Drafts.{file_at, clients_of, commands_of};
+ghost use Rattle.mf_script.specs.Said.{matter_said};
+ghost use Rattle.mf_script.specs.Printing.{name_at, line_text, stage_form, file_form, command_form, client_forms, phase_forms, script_text};
+ghost use Rattle.mf_script.specs.Texts.{next_line, lines_text, names_in, script_with};
+
+use crate::contents::{Content, FileLine};
+use crate::scripts::{Act, Client, Command, Item};
+use mf_shape::Stage;
+use mf_text::{push_decimal, push_hex};
+use std::alloc::{AllocError, Global};
+
+// An LF, and a word.
+fn begin(out: &mut Vec<u8>, word: &[u8]) -> Result<(), AllocError>
+    ensures { OnOk result (out.new.items ≡ out.old.items ++ 10 ∷ word.now) }
+{
+    out.push(b'\n')?;
+    out.extend_from_slice(word)
+}
+
+// A space, and a word.
+fn push_word(out: &mut Vec<u8>, word: &[u8]) -> Result<(), AllocError>
+    ensures { OnOk result (out.new.items ≡ out.old.items ++ 32 ∷ word.now) }
+{
+    out.push(b' ')?;
+    out.extend_from_slice(word)
+}
+
+// A space, and a number.
+fn push_number(out: &mut Vec<u8>, n: u32) -> Result<(), AllocError>
+    ensures { OnOk result (out.new.items ≡ out.old.items ++ 32 ∷ decimal_text n) }
+{
+    out.push(b' ')?;
+    push_decimal(out, u64::from(n))
+}
+
+// The line of the servers.
+#[tactic(auto, unfolding(crate::specs::Printing::line_text), using(std::proofs::lemmas::List::append_assoc))]
+fn push_servers(out: &mut Vec<u8>, servers: u32) -> Result<(), AllocError>
+    ensures { OnOk result (out.new.items ≡ out.old.items ++ next_line [] (servers_line servers)) }
+{
+    begin(out, b"servers")?;
+    push_number(out, servers)
+}
+
+// The line of the chunk size.
+#[tactic(auto, unfolding(crate::specs::Printing::line_text), using(std::proofs::lemmas::List::append_assoc))]
+fn push_chunk(out: &mut Vec<u8>, chunk: u32) -> Result<(), AllocError>
+    ensures { OnOk result (out.new.items ≡ out.old.items ++ next_line [] (chunk_line chunk)) }
+{
+    begin(out, b"chunk")?;
+    push_number(out, chunk)
+}
+
+// The line of the points.
+fn push_points(out: &mut Vec<u8>, points: &[u8]) -> Result<(), AllocError>
+    ensures { OnOk result (out.new.items ≡ out.old.items ++ next_line [] (points_line points.now)) }
+{
+    begin(out, b"points")?;
+    for point in points {
+        push_number(out, u32::from(*point))?;
+    }
+    Ok(())
+}
+
+// The line of a stage.
+#[tactic(auto, unfolding(crate::specs::Printing::line_text), using(std::proofs::lemmas::List::append_assoc))]
+fn push_stage(out: &mut Vec<u8>, stage: Stage) -> Result<(), AllocError>
+    ensures { OnOk result (out.new.items ≡ out.old.items ++ next_line [] (stage_form stage)) }
+{
+    begin(out, b"stage")?;
+    push_number(out, stage.width)?;
+    push_number(out, stage.parities)?;
+    push_number(out, stage.copies)
+}
+
+// The line of a file.
+#[tactic(auto, unfolding(crate::specs::Printing::line_text), using(std::proofs::lemmas::List::append_assoc))]
+fn push_file(out: &mut Vec<u8>, file: &FileLine) -> Result<(), AllocError>
+    ensures { OnOk result (out.new.items ≡ out.old.items ++ next_line [] (file_form (file_at file.now))) }
+{
+    begin(out, b"file")?;
+    push_word(out, &file.name)?;
+    match &file.content {
+        Content::Empty => push_word(out, b"empty"),
+        Content::Text(bytes) => {
+            push_word(out, b"text")?;
+            push_word(out, bytes)
+        }
+        Content::Hex(bytes) => {
+            push_word(out, b"hex ")?;
+            push_hex(out, bytes)
+        }
+        Content::Pattern { length, start } => {
+            push_word(out, b"pattern")?;
+            push_number(out, *length)?;
+            push_number(out, *start)
+        }
+    }
+}
+
+// The name of a file, or nothing where there is none of this number.
+fn name_of(files: &[FileLine], file: u32) -> &[u8]
+    ensures { result.now ≡ name_at (names_in files.now) file }
+{
+    match files.get(file as usize) {
+        Some(line) => line.name.as_slice(),
+        None => &[],
+    }
+}
+
+// The line of a command.
+#[tactic(auto, unfolding(crate::specs::Printing::line_text), using(std::proofs::lemmas::List::append_assoc))]
+fn push_command(out: &mut Vec<u8>, files: &[FileLine], command: Command) -> Result<(), AllocError>
+    ensures { OnOk result (out.new.items ≡ out.old.items ++ next_line (names_in files.now) (command_form command)) }
+{
+    match command.act {
+        Act::Create(file) => {
+            begin(out, b"create")?;
+            push_word(out, name_of(files, file))
+        }
+        Act::Read(file) => {
+            begin(out, b"read")?;
+            push_word(out, name_of(files, file))
+        }
+    }
+}
+
+// The lines of the stages.
+fn push_stages(out: &mut Vec<u8>, stages: &[Stage]) -> Result<(), AllocError>
+    ensures { OnOk result (out.new.items ≡ out.old.items ++ lines_text [] (map stage_form stages.now)) }
+{
+    for stage in stages {
+        push_stage(out, *stage)?;
+    }
+    Ok(())
+}
+
+// The lines of the files.
+fn push_files(out: &mut Vec<u8>, files: &[FileLine]) -> Result<(), AllocError>
+    ensures { OnOk result (out.new.items ≡ out.old.items ++ lines_text [] (map file_form (map file_at files.now))) }
+{
+    for file in files {
+        push_file(out, file)?;
+    }
+    Ok(())
+}
+
+// The lines of a client.
+fn push_client(out: &mut Vec<u8>, files: &[FileLine], client: &Client) -> Result<(), AllocError>
+    ensures { OnOk result (out.new.items ≡ out.old.items ++ lines_text (names_in files.now) (client_forms client.now.commands.items)) }
+{
+    begin(out, b"client")?;
+    for command in &client.commands {
+        push_command(out, files, *command)?;
+    }
+    Ok(())
+}
+
+// The lines of a phase.
+fn push_phase(out: &mut Vec<u8>, files: &[FileLine], clients: &[Client]) -> Result<(), AllocError>
+    ensures { OnOk result (out.new.items ≡ out.old.items ++ lines_text (names_in files.now) (phase_forms (commands_of clients.now))) }
+{
+    begin(out, b"phase")?;
+    for client in clients {
+        push_client(out, files, client)?;
+    }
+    Ok(())
+}
+
+// The clients of a phase.
+fn clients_of(item: &Item) -> &[Client]
+    ensures { commands_of result.now ≡ clients_of item.now }
+{
+    match item {
+        Item::Phase(clients) => clients.as_slice(),
+    }
+}
+
+// The lines of the items.
+fn push_items(out: &mut Vec<u8>, files: &[FileLine], items: &[Item]) -> Result<(), AllocError>
+    ensures { OnOk result (out.new.items ≡ out.old.items ++ lines_text (names_in files.now) (flat_map phase_forms (map clients_of items.now))) }
+{
+    for item in items {
+        push_phase(out, files, clients_of(item))?;
+    }
+    Ok(())
+}
+
+/// The text of a script of these parts: each line but the last ends with LF.
+pub fn print(
+    alloc: Global,
+    servers: u32,
+    chunk: u32,
+    points: &[u8],
+    stages: &[Stage],
+    files: &[FileLine],
+    items: &[Item],
+) -> Result<Vec<u8>, AllocError>
+    ensures { IfOk result (λ v. v.items ≡ script_text (script_with servers chunk points.now stages.now files.now items.now)) }
+{
+    let mut out = Vec::from_slice(alloc, b"morph 1")?;
+    push_servers(&mut out, servers)?;
+    push_chunk(&mut out, chunk)?;
+    push_points(&mut out, points)?;
+    push_stages(&mut out, stages)?;
+    push_files(&mut out, files)?;
+    push_items(&mut out, files, items)?;
+    begin(&mut out, b"end")?;
+    Ok(out)
+}

@@ -1,0 +1,3 @@
+mod Reports
+mod Ending
+mod Checking

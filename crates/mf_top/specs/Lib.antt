@@ -1,0 +1,4 @@
+pub mod FirstRun
+pub mod Answers
+pub mod Ends
+pub mod Given

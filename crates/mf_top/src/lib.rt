@@ -1,0 +1,193 @@
+//! The top call: what the program reads, answers and ends with.
+#![tactic(auto)]
+
+ghost use Rattle.std.specs.Prelude.{◌≡◌, ◌≤◌, ◌⊎◌, ◌∷◌, [], ℕ, length, take, map, MatchOption};
+ghost use Rattle.std.specs.String.{string_bytes};
+ghost use Rattle.std.specs.Io.KnownBytes.{Appends};
+ghost use Rattle.mf_io.specs.Faults.{HasRisen};
+ghost use Rattle.mf_top.specs.Answers.{task_words, AsksNothing};
+ghost use Rattle.mf_top.specs.Ends.{Ends, number_of};
+
+mod answers;
+mod report;
+
+use answers::{Answer, answer_of, long_answer};
+use mf_io::{ReadAll, Sink, Source, read_all, write_all};
+use std::alloc::Global;
+
+/// The greatest number of bytes of a script.
+const TEXT_LIMIT: usize = 1_048_576;
+
+/// What the words of a call ask for.
+#[derive(Clone, Copy, Debug, PartialEq, Eq)]
+enum Task {
+    /// To run a script.
+    Run,
+    /// To try the family of a script.
+    Check,
+}
+
+/// How a call ended.
+#[derive(Clone, Copy, Debug, PartialEq, Eq)]
+enum Status {
+    /// The task was done, and its answer written.
+    Done,
+    /// The text is no script.
+    Refused,
+    /// The words ask for nothing that the program does.
+    Words,
+    /// A read failed.
+    SourceFault,
+    /// A write failed.
+    SinkFault,
+    /// Memory ran out.
+    Memory,
+}
+
+/// Does what the words ask for, which stand after the program's name, and answers the program's status. With the one
+/// word `run` it reads a script from the source, runs it, and writes the report to the sink. With the one word `check`
+/// it does as `morph_check`. The status is:
+///
+/// - 0: the script was read to its end, and its report or line was written whole;
+/// - 1: the text is no script, and the line that says so was written;
+/// - 2: the words are others, nothing was read, and the line that says so was written;
+/// - 3: a read failed, and nothing was written;
+/// - 4: a write failed, and a front of the report or line was written;
+/// - 5: memory ran out, and nothing was written.
+pub fn morph<R, S: Source, K: Sink>(
+    _rt: &R,
+    alloc: Global,
+    words: &[String],
+    source: &mut S,
+    sink: &mut K,
+) -> u8
+    ensures { (status : Status) × (result ≡ number_of status) × Ends (record {
+      words = map string_bytes words.now;
+      left = S.left source.old;
+      left_now = S.left source.new;
+      written = K.written sink.old;
+      written_now = K.written sink.new;
+      source_faults = S.faults source.old;
+      source_faults_now = S.faults source.new;
+      sink_faults = K.faults sink.old;
+      sink_faults_now = K.faults sink.new;
+    }) status }
+{
+    end_of(alloc, words, source, sink) as u8
+}
+
+/// Tries the family of the script that the source has left. It writes one line: `family ok stages Q tolerance T ..`
+/// with the tolerance of each stage, or `refused line L ` and what is wrong there. It answers the status of `morph`
+/// with the word `check`: 0, 1, 3, 4 or 5.
+pub fn morph_check<S: Source, K: Sink>(alloc: Global, source: &mut S, sink: &mut K) -> u8
+    ensures { (status : Status) × (result ≡ number_of status) × Ends (record {
+      words = task_words Task.Check;
+      left = S.left source.old;
+      left_now = S.left source.new;
+      written = K.written sink.old;
+      written_now = K.written sink.new;
+      source_faults = S.faults source.old;
+      source_faults_now = S.faults source.new;
+      sink_faults = K.faults sink.old;
+      sink_faults_now = K.faults sink.new;
+    }) status }
+{
+    end_of_task(alloc, Task::Check, source, sink) as u8
+}
+
+// How a call with these words ends.
+fn end_of<S: Source, K: Sink>(
+    alloc: Global,
+    words: &[String],
+    source: &mut S,
+    sink: &mut K,
+) -> Status
+    ensures { Ends (record {
+      words = map string_bytes words.now;
+      left = S.left source.old;
+      left_now = S.left source.new;
+      written = K.written sink.old;
+      written_now = K.written sink.new;
+      source_faults = S.faults source.old;
+      source_faults_now = S.faults source.new;
+      sink_faults = K.faults sink.old;
+      sink_faults_now = K.faults sink.new;
+    }) result }
+{
+    match task_of(words) {
+        Some(task) => end_of_task(alloc, task, source, sink),
+        None => write_answer(sink, b"refused words\n", Status::Words),
+    }
+}
+
+// What the words ask for.
+fn task_of(words: &[String]) -> Option<Task>
+    ensures { MatchOption result (AsksNothing (map string_bytes words.now)) (λ task. map string_bytes words.now ≡ task_words task) }
+{
+    match words {
+        [word] => task_named(word.as_str()),
+        _ => None,
+    }
+}
+
+// The task of this name.
+fn task_named(word: &str) -> Option<Task>
+    ensures { MatchOption result (AsksNothing (word.now ∷ [])) (λ task. word.now ∷ [] ≡ task_words task) }
+{
+    if word == "run" {
+        Some(Task::Run)
+    } else if word == "check" {
+        Some(Task::Check)
+    } else {
+        None
+    }
+}
+
+// How a task ends.
+fn end_of_task<S: Source, K: Sink>(
+    alloc: Global,
+    task: Task,
+    source: &mut S,
+    sink: &mut K,
+) -> Status
+    ensures { Ends (record {
+      words = task_words task;
+      left = S.left source.old;
+      left_now = S.left source.new;
+      written = K.written sink.old;
+      written_now = K.written sink.new;
+      source_faults = S.faults source.old;
+      source_faults_now = S.faults source.new;
+      sink_faults = K.faults sink.old;
+      sink_faults_now = K.faults sink.new;
+    }) result }
+{
+    let text = match read_all(alloc, source, TEXT_LIMIT) {
+        Ok(text) => text,
+        Err(ReadAll::Fault) => return Status::SourceFault,
+        Err(ReadAll::TooLong) => return write_answer(sink, long_answer(task), Status::Refused),
+        Err(ReadAll::Memory) => return Status::Memory,
+    };
+    match answer_of(alloc, task, &text) {
+        Ok(Answer::Done(report)) => write_answer(sink, &report, Status::Done),
+        Ok(Answer::Refused(line)) => write_answer(sink, &line, Status::Refused),
+        Err(_) => Status::Memory,
+    }
+}
+
+// Writes an answer, and says with which status the call ends.
+fn write_answer<K: Sink>(sink: &mut K, answer: &[u8], whole: Status) -> Status
+    ensures { ((result ≡ whole) × Appends (K.written sink.old) (K.written sink.new) answer.now
+        × (K.faults sink.new ≡ K.faults sink.old))
+        ⊎ ((result ≡ Status.SinkFault) × HasRisen (K.faults sink.old) (K.faults sink.new)
+        × (n : ℕ) × (n ≤ length answer.now)
+        × Appends (K.written sink.old) (K.written sink.new) (take n answer.now)) }
+{
+    match write_all(sink, answer) {
+        Ok(()) => whole,
+        Err(_) => Status::SinkFault,
+    }
+}
+
+#[cfg(test)]
+mod tests;

@@ -13,8 +13,8 @@ chunk_count size file = div_ceil (length file) size
 unfoldable pub chunk : ℕ → List ℕ → ℕ → List ℕ
 chunk size file i = list_of size (λ x. slice_index file (i * size + x))
 
--- Byte x of the parity with this point of stripe j of this width: the sum, over the chunks t of the stripe as far as the
--- file has them, of point ^ (t - j * width) times byte x of chunk t.
+-- Byte x of the parity with this point of stripe j of this width: the sum, over the chunks t of the stripe as far as
+-- the file has them, of point ^ (t - j * width) times byte x of chunk t.
 unfoldable pub parity_byte : ℕ → List ℕ → ℕ → ℕ → ℕ → ℕ → ℕ
 parity_byte size file point width j x =
     sum_between (j * width) (min ((j + 1) * width) (chunk_count size file))

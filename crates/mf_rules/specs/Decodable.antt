@@ -24,8 +24,10 @@ AgreeOutside places u v = (i : ℕ) → i < length u → ¬ Contains places i �
 
 -- The set of places is decodable: data lists whose words agree outside the set are equal.
 pub record IsDecodableAt (points : List ℕ) (width : ℕ) (places : List ℕ) : Type 0 where
-  pub one : (d e : List ℕ) → IsData width d → IsData width e → AgreeOutside places (word points d) (word points e) → d ≡ e
+  pub one : (d e : List ℕ) → IsData width d → IsData width e
+      → AgreeOutside places (word points d) (word points e) → d ≡ e
 
 -- Stripes of this width with one parity for each point: every set of as many places as there are points is decodable.
 pub record IsDecodable (points : List ℕ) (width : ℕ) : Type 0 where
-  pub each : (places : List ℕ) → IsPlaceSet (width + length points) (length points) places → IsDecodableAt points width places
+  pub each : (places : List ℕ) → IsPlaceSet (width + length points) (length points) places
+      → IsDecodableAt points width places

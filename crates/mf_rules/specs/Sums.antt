@@ -11,14 +11,6 @@ sum_below (suc n) f = bit_xor (sum_below n f) (f n)
 abbrev pub sum_between : ℕ → ℕ → (ℕ → ℕ) → ℕ
 sum_between low high f = sum_below (high - low) (λ i. f (low + i))
 
--- The sum of a list of bytes.
-abbrev pub sum_of : List ℕ → ℕ
-sum_of xs = sum_below (length xs) (slice_index xs)
-
 -- The sum of a list by a point: of point ^ i times byte i. It is the one byte of a parity over columns of one byte.
 abbrev pub weighted : ℕ → List ℕ → ℕ
 weighted point xs = sum_below (length xs) (λ i. times (power point i) (slice_index xs i))
-
--- The sum of the products of two lists, place by place, over the places of the first.
-abbrev pub dot : List ℕ → List ℕ → ℕ
-dot xs ys = sum_below (length xs) (λ i. times (slice_index xs i) (slice_index ys i))

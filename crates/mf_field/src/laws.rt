@@ -77,8 +77,10 @@ pub fn pow_of_product(a: u8, m: u32, n: u32)
 /// `point ^ (b * k)` times the sum of the block by the point, is the sum of all n * k bytes by the point. Where the blocks
 /// reach the end of the list, this is the sum of the list by the point.
 pub fn merging(point: u8, x: &[u8], n: usize, k: usize)
-    ensures blocks { sum_below n (λ b. times (power point (b * k)) (sum_below k (λ i. times (power point i) (slice_index x.now (b * k + i)))))
+    ensures blocks { sum_below n (λ b. times (power point (b * k))
+        (sum_below k (λ i. times (power point i) (slice_index x.now (b * k + i)))))
         ≡ sum_below (n * k) (λ t. times (power point t) (slice_index x.now t)) }
-    ensures whole { length x.now ≤ n * k →
-        sum_below (n * k) (λ t. times (power point t) (slice_index x.now t)) ≡ weighted point x.now }
+    ensures whole { length x.now ≤ n * k
+        → sum_below (n * k) (λ t. times (power point t) (slice_index x.now t))
+        ≡ weighted point x.now }
 {}

@@ -1,18 +1,20 @@
 -- Lost places as a decoder has them: the data places that are lost, and as many parities that are had in their stead.
-use Rattle.std.specs.Prelude.{ℕ, zero, suc, ◌≡◌, ◌⊎◌, ◌+◌, ◌<◌, ◌==◌, if◌then◌else◌, List, [], ◌∷◌, ◌++◌, length, map, slice_index, All, Contains}
+use Rattle.std.specs.Prelude.{ℕ, zero, suc, ◌≡◌, ◌⊎◌, ◌+◌, ◌<◌, ◌==◌, if◌then◌else◌, List, [], ◌∷◌, ◌++◌, length, map}
+use Rattle.std.specs.Prelude.{slice_index, All, Contains}
 use Rattle.std.specs.List.Sorted.{IsStrictlyIncreasing}
 use Rattle.mf_rules.specs.Field.{times, power}
 use Rattle.mf_rules.specs.Sums.{sum_below}
 use Rattle.mf_rules.specs.Decodable.{IsPlaceSet, IsDecodableAt}
 
--- The matrix of an erasure: a row for each parity that is kept, a column for each data place that is lost, and as entry the
--- parity's point to the power of the place.
+-- The matrix of an erasure: a row for each parity that is kept, a column for each data place that is lost, and as entry
+-- the parity's point to the power of the place.
 abbrev pub entry : List ℕ → List ℕ → List ℕ → ℕ → ℕ → ℕ
 entry points lost kept i j = power (slice_index points (slice_index kept i)) (slice_index lost j)
 
 -- The matrix of n rows and columns sends only the zero list to zero.
 abbrev pub OnlyZero : ℕ → (ℕ → ℕ → ℕ) → Type 0
-OnlyZero n m = (x : ℕ → ℕ) → ((j : ℕ) → x j < 256) → ((i : ℕ) → i < n → sum_below n (λ j. times (m i j) (x j)) ≡ 0) → (j : ℕ) → j < n → x j ≡ 0
+OnlyZero n m = (x : ℕ → ℕ) → ((j : ℕ) → x j < 256)
+    → ((i : ℕ) → i < n → sum_below n (λ j. times (m i j) (x j)) ≡ 0) → (j : ℕ) → j < n → x j ≡ 0
 
 -- A list of places, in ascending order.
 pub record IsPlaces (count : ℕ) (places : List ℕ) : Type 0 where
@@ -37,7 +39,8 @@ pub record IsComplement (count : ℕ) (ones others : List ℕ) : Type 0 where
 unfoldable pub others_from : ℕ → ℕ → List ℕ → List ℕ
 others_from at zero ones = []
 others_from at (suc n) [] = at ∷ others_from (at + 1) n []
-others_from at (suc n) (one ∷ ones) = if one == at then others_from (at + 1) n ones else at ∷ others_from (at + 1) n (one ∷ ones)
+others_from at (suc n) (one ∷ ones) =
+    if one == at then others_from (at + 1) n ones else at ∷ others_from (at + 1) n (one ∷ ones)
 
 -- The places of a stripe: data places, and behind the data the places of parities.
 abbrev pub places_of : ℕ → List ℕ → List ℕ → List ℕ
@@ -61,6 +64,7 @@ pub record DecodableByMatrix : Type 0 where
 -- A set of as many places as there are parities belongs to an erasure, and each erasure to such a set.
 pub record SetsAreErasures : Type 0 where
   pub of_set : (width count : ℕ) (places : List ℕ) → IsPlaceSet (width + count) count places
-      → (lost : List ℕ) × (gone : List ℕ) × (places ≡ places_of width lost gone) × Splits width count places lost (others_from 0 count gone)
+      → (lost : List ℕ) × (gone : List ℕ) × (places ≡ places_of width lost gone)
+      × Splits width count places lost (others_from 0 count gone)
   pub of_erasure : (width count : ℕ) (lost kept : List ℕ) → IsErasure width count lost kept
       → (places : List ℕ) × IsPlaceSet (width + count) count places × Splits width count places lost kept

@@ -4,3 +4,4 @@ pub mod Sums
 pub mod Inverses
 pub mod Kernels
 pub mod Pivots
+pub mod Same

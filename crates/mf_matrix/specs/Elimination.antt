@@ -1,6 +1,7 @@
--- Systems of linear equations, as the elimination has them. Equation i is a list of coefficients, and values z solve it where
--- the sum of coefficient j times z j is zero.
-use Rattle.std.specs.Prelude.{ℕ, ◌≡◌, ◌≢◌, ◌+◌, ◌<◌, ◌≤◌, ◌⊎◌, ◌==◌, nat_lt, if◌then◌else◌, List, [], slice_index, bit_xor}
+-- Systems of linear equations, as the elimination has them. Equation i is a list of coefficients, and values z solve it
+-- where the sum of coefficient j times z j is zero.
+use Rattle.std.specs.Prelude.{ℕ, ◌≡◌, ◌≢◌, ◌+◌, ◌<◌, ◌≤◌, ◌⊎◌, ◌==◌, nat_lt, if◌then◌else◌, List}
+use Rattle.std.specs.Prelude.{[], slice_index, bit_xor}
 use Rattle.std.specs.List.{slice_index_or}
 use Rattle.mf_rules.specs.Field.{times}
 use Rattle.mf_rules.specs.Sums.{sum_below}
@@ -47,10 +48,12 @@ shown_at e c f i = if nat_lt i c then times f (e i c) else (if i == c then f els
 
 -- v is the first number of column c before row c that is not zero, or 1 where there is none.
 abbrev pub IsLeading : (ℕ → ℕ → ℕ) → ℕ → ℕ → Type 0
-IsLeading e c v = ((i : ℕ) × (i < c) × (e i c ≡ v) × (v ≢ 0) × ((k : ℕ) → k < i → e k c ≡ 0)) ⊎ ((v ≡ 1) × ((k : ℕ) → k < c → e k c ≡ 0))
+IsLeading e c v =
+    ((i : ℕ) × (i < c) × (e i c ≡ v) × (v ≢ 0) × ((k : ℕ) → k < i → e k c ≡ 0))
+    ⊎ ((v ≡ 1) × ((k : ℕ) → k < c → e k c ≡ 0))
 
--- The column of unknown c holds, in the first m equations, what the solved system has there, and the solutions are those of
--- the system that clearing started with.
+-- The column of unknown c holds, in the first m equations, what the solved system has there, and the solutions are
+-- those of the system that clearing started with.
 pub record IsCleared (n c m : ℕ) (start e : ℕ → ℕ → ℕ) : Type 0 where
   pub same : SameSolutions n start e
   pub solved : IsSolvedBelow n e c

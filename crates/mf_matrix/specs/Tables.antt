@@ -51,8 +51,8 @@ pub record IsFirstDependent (n : ℕ) (a : ℕ → ℕ → ℕ) (c : ℕ) : Type
 abbrev pub BeginsWithOne : List ℕ → Type 0
 BeginsWithOne x = (j : ℕ) × (slice_index x j ≡ 1) × ((i : ℕ) → i < j → slice_index x i ≡ 0)
 
--- x is the kernel list of a: n bytes that a sends to zero, which are zero after the first column that depends on the columns
--- before it, and the first of which that is not zero is 1.
+-- x is the kernel list of a: n bytes that a sends to zero, which are zero after the first column that depends on the
+-- columns before it, and the first of which that is not zero is 1.
 pub record IsKernel (n : ℕ) (a : ℕ → ℕ → ℕ) (x : List ℕ) : Type 0 where
   pub len : length x ≡ n
   pub bytes : IsBytes (slice_index x)

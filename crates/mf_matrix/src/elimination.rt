@@ -1,13 +1,15 @@
 //! Elimination. To invert a matrix a is to solve a x = y for x, whatever y is. Each equation of the
 //! system has its coefficients of x first, and behind them those of y. Steps that keep the solutions
 //! solve it for one unknown after the other.
-ghost use Rattle.std.specs.Prelude.{◌≡◌, ◌≢◌, ℕ, ◌+◌, ◌*◌, ◌<◌, ◌≤◌, ◌⊎◌, ◌++◌, length, slice_index, bit_xor, OnOk, IfOk, IfSome, IfNone};
+ghost use Rattle.std.specs.Prelude.{◌≡◌, ◌≢◌, ℕ, ◌+◌, ◌*◌, ◌<◌, ◌≤◌, ◌⊎◌, ◌++◌};
+ghost use Rattle.std.specs.Prelude.{length, slice_index, bit_xor, OnOk, IfOk, IfSome, IfNone};
 ghost use Rattle.std.specs.Bool.{OnTrue, OnFalse};
 ghost use Rattle.mf_rules.specs.Field.{times};
 ghost use Rattle.mf_rules.specs.Rows.{list_of};
 ghost use Rattle.mf_matrix.specs.Tables.{IsTable};
 ghost use Rattle.mf_matrix.specs.Matrix.{entry};
-ghost use Rattle.mf_matrix.specs.Elimination.{coefficient, SameSolutions, IsSolvedBelow, AddsTimes, Scales, IsSystemOf, IsStuckAt, IsLeading, shown_at};
+ghost use Rattle.mf_matrix.specs.Elimination.{coefficient, SameSolutions, IsSolvedBelow, AddsTimes};
+ghost use Rattle.mf_matrix.specs.Elimination.{Scales, IsSystemOf, IsStuckAt, IsLeading, shown_at};
 
 use crate::Matrix;
 use mf_field::{add, inv, mul};
@@ -18,7 +20,8 @@ pub type Equation = [u8; 16];
 
 /// The equation with a multiple of another one added.
 fn plus_times(equation: Equation, factor: u8, other: Equation) -> Equation
-    ensures { (j : ℕ) → slice_index result j ≡ bit_xor (slice_index equation j) (times factor (slice_index other j)) }
+    ensures { (j : ℕ) → slice_index result j
+        ≡ bit_xor (slice_index equation j) (times factor (slice_index other j)) }
 {
     let mut sum = equation;
     for j in 0..16 {
@@ -60,7 +63,8 @@ pub fn equations_of(matrix: &Matrix) -> [Equation; 8]
 /// The first equation from `column` on that has the unknown of this column.
 fn equation_with(equations: &[Equation; 8], size: usize, column: usize) -> Option<usize>
     requires { size ≤ 8 }
-    ensures some { IfSome result (λ i. (column ≤ i) × (i < size) × (coefficient equations.now i column ≢ 0)) }
+    ensures some { IfSome result (λ i. (column ≤ i) × (i < size)
+        × (coefficient equations.now i column ≢ 0)) }
     ensures none { IfNone result (IsStuckAt size (coefficient equations.now) column) }
 {
     for i in column..size {
@@ -197,7 +201,8 @@ fn shown_list(
     factor: u8,
 ) -> Result<Vec<u8>, AllocError>
     requires { column < 8 }
-    ensures { IfOk result (λ list. list.items ≡ list_of size (shown_at (coefficient equations.now) column factor)) }
+    ensures { IfOk result (λ list. list.items
+        ≡ list_of size (shown_at (coefficient equations.now) column factor)) }
 {
     let mut list = Vec::with_capacity(alloc, size)?;
     for i in 0..size {
@@ -215,7 +220,9 @@ pub fn kernel_of(
     column: usize,
 ) -> Result<Vec<u8>, AllocError>
     requires { column < 8 }
-    ensures { IfOk result (λ list. (v f : ℕ) × IsLeading (coefficient equations.now) column v × (times v f ≡ 1) × (f < 256) × (list.items ≡ list_of size (shown_at (coefficient equations.now) column f))) }
+    ensures { IfOk result (λ list. (v f : ℕ) × IsLeading (coefficient equations.now) column v
+        × (times v f ≡ 1) × (f < 256)
+        × (list.items ≡ list_of size (shown_at (coefficient equations.now) column f))) }
 {
     if let Some(factor) = inv(leading(equations, column)) {
         shown_list(alloc, equations, size, column, factor)
@@ -227,7 +234,8 @@ pub fn kernel_of(
 /// Appends the equation's coefficients of y.
 fn push_right(cells: &mut Vec<u8>, equation: &Equation, size: usize) -> Result<(), AllocError>
     requires { size ≤ 8 }
-    ensures { OnOk result (cells.new.items ≡ cells.old.items ++ list_of size (λ b. slice_index equation.now (size + b))) }
+    ensures { OnOk result (cells.new.items ≡ cells.old.items
+        ++ list_of size (λ b. slice_index equation.now (size + b))) }
 {
     cells.extend_from_slice(&equation[size..size + size])?;
     Ok(())
@@ -241,7 +249,8 @@ pub fn inverse_cells(
 ) -> Result<Vec<u8>, AllocError>
     requires { size ≤ 8 }
     ensures len { IfOk result (λ cells. length cells.items ≡ size * size) }
-    ensures cells { IfOk result (λ cells. (i j : ℕ) → i < size → j < size → slice_index cells.items (i * size + j) ≡ coefficient equations.now i (size + j)) }
+    ensures cells { IfOk result (λ cells. (i j : ℕ) → i < size → j < size
+        → slice_index cells.items (i * size + j) ≡ coefficient equations.now i (size + j)) }
 {
     let mut cells = Vec::with_capacity(alloc, size * size)?;
     for i in 0..size {

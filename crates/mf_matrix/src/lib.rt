@@ -1,7 +1,8 @@
 //! Small matrices over the field of bytes, their inverses and their kernels.
 #![tactic(auto)]
 
-ghost use Rattle.std.specs.Prelude.{◌≡◌, ℕ, ◌+◌, ◌*◌, ◌<◌, ◌≤◌, ⊤, length, slice_index, IfOk, IfErr};
+ghost use Rattle.std.specs.Prelude.{◌≡◌, ℕ, ◌+◌, ◌*◌, ◌<◌, ◌≤◌, ⊤, length, slice_index};
+ghost use Rattle.std.specs.Prelude.{IfOk, IfErr};
 ghost use Rattle.mf_matrix.specs.Tables.{IsInverse};
 ghost use Rattle.mf_matrix.specs.Matrix.{IsGrid, entry};
 ghost use Rattle.mf_matrix.specs.NoInverses.{IsNoInverse};
@@ -27,7 +28,8 @@ impl Model for Matrix {
 
     ghost view = { λ m. record { rows = m.rows; columns = m.columns; cells = m.cells.items } };
 
-    ghost invariant = { λ m. IsGrid (record { rows = m.rows; columns = m.columns; cells = m.cells.items }) };
+    ghost invariant = { λ m.
+        IsGrid (record { rows = m.rows; columns = m.columns; cells = m.cells.items }) };
 }
 
 /// The kernel list of a matrix that has no inverse: the matrix sends it to zero, it is zero after the
@@ -93,8 +95,10 @@ impl Matrix {
 /// that memory ran out, and nothing of the matrix.
 pub fn invert(alloc: Global, matrix: &Matrix) -> Result<Matrix, NoInverse>
     requires { matrix.now.rows ≡ matrix.now.columns }
-    ensures size { IfOk result (λ b. (b.rows ≡ matrix.now.rows) × (b.columns ≡ matrix.now.columns)) }
-    ensures inverse { IfOk result (λ b. IsInverse (matrix.now.columns) (entry matrix.now) (entry b)) }
+    ensures size { IfOk result (λ b. (b.rows ≡ matrix.now.rows)
+        × (b.columns ≡ matrix.now.columns)) }
+    ensures inverse { IfOk result (λ b.
+        IsInverse (matrix.now.columns) (entry matrix.now) (entry b)) }
     ensures kernel { IfErr result (IsNoInverse (matrix.now.columns) (entry matrix.now)) }
 {
     let size = matrix.columns as usize;

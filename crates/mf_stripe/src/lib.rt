@@ -11,7 +11,8 @@ ghost use Rattle.mf_stripe.specs.Block.{rows, with_columns};
 ghost use lib.Lanes.{zip2};
 
 use mf_field::pow;
-use mf_kernel::{BLOCK, Chunk, Memory, add_scaled};
+pub use mf_kernel::{Chunk, Memory};
+use mf_kernel::{BLOCK, add_scaled};
 use std::alloc::Global;
 
 /// The parities of a stripe of at most `width` pieces, one for each point. Pieces and parities have

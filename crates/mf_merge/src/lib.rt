@@ -8,7 +8,8 @@ ghost use Rattle.mf_rules.specs.Rows.{list_of};
 ghost use Rattle.mf_merge.specs.Merged.{first_length, merged_byte, narrow_parities};
 
 use mf_field::pow;
-use mf_kernel::{BLOCK, Chunk, Memory, add_scaled};
+pub use mf_kernel::{Chunk, Memory};
+use mf_kernel::{BLOCK, add_scaled};
 use std::alloc::Global;
 
 /// The parity of a wide stripe with this point, from the parities with the same point of the stripes

@@ -17,7 +17,7 @@ use Rattle.mf_decode.specs.Decoding.{Plan, points_of, gaps_from, filled, column_
 use Rattle.mf_decode.specs.Columns.{there, weight_of}
 use Rattle.mf_decode.specs.Plans.{IsPlan}
 use Rattle.mf_decode.proofs.Filling.{gaps_from-map}
-use Rattle.mf_decode.proofs.Tables.{SameBelow, is_inverse-same}
+use Rattle.mf_matrix.proofs.Same.{SameBelow, is_inverse-same}
 use Rattle.mf_decode.proofs.Solving.{Bytes, Inverts, table_weight, decoded, decoded_list, decoded_agrees, decoded_only}
 
 -- each piece that is there is bytes

@@ -1,7 +1,6 @@
 pub mod Orders
 pub mod Filling
 pub mod Solving
-pub mod Tables
 pub mod Planned
 pub mod Blocks
 pub mod Decoded
@@ -9,3 +8,4 @@ pub mod Lists
 pub mod Askings
 pub mod Whole
 pub mod OnePoint
+pub mod Letters

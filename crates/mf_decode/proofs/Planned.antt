@@ -1,15 +1,14 @@
 -- A plan from its parts.
-use Rattle.std.proofs.Common.{◌≡◌, ℕ, zero, suc, ◌+◌, ◌*◌, ◌<◌, ◌≤◌, inl, inr, List, [], ◌∷◌, length, map, get_or, refl, sym, ap, ◌∙◌, subst, arith}
+use Rattle.std.proofs.Common.{◌≡◌, ℕ, zero, suc, ◌+◌, ◌*◌, ◌<◌, ◌≤◌, List, [], ◌∷◌, ◌++◌, length, map, get_or, refl, sym, ap, ap₂, ◌∙◌, subst, arith, length-append}
 use Rattle.mf_matrix.specs.declared.NoInverse.{NoInverse}
 use Rattle.mf_matrix.specs.declared.NoInverse.TheVariants as no_inverse
-use Rattle.mf_matrix.specs.Tables.{IsInverse, IsTable, IsKernel}
+use Rattle.mf_matrix.specs.Tables.{IsInverse, IsTable}
 use Rattle.mf_matrix.specs.NoInverses.{IsNoInverse}
-use Rattle.mf_erasure.specs.Erasure.{entry, IsErasure, IsPlaces, OnlyZero}
-use Rattle.std.proofs.lemmas.Bool.{cases_lt}
-use Rattle.std.proofs.lemmas.List.{get_or_past}
+use Rattle.mf_matrix.proofs.Sums.{cells_more}
+use Rattle.mf_matrix.proofs.Same.{SameBelow, same_back, is_inverse-same, has_inverse-same, is_kernel-same}
+use Rattle.mf_erasure.specs.Erasure.{entry, IsErasure, IsPlaces}
 use Rattle.mf_erasure.proofs.Places.{others_complement}
 use Rattle.mf_decode.specs.Plans.{IsNoPlan, no_plan_of, HasRows, IsPlan}
-use Rattle.mf_decode.proofs.Tables.{SameBelow, same_back, is_inverse-same, has_inverse-same, is_kernel-same}
 
 -- places below a count are at most as many
 pub few_places : (count : ℕ) (places : List ℕ) → IsPlaces count places → length places ≤ count
@@ -33,6 +32,17 @@ map_bytes : (points ps : List ℕ) → ((k : ℕ) → get_or points k 0 < 256) �
 map_bytes points [] lp j = omega arith
 map_bytes points (p ∷ ps) lp zero = lp p
 map_bytes points (p ∷ ps) lp (suc j) = map_bytes points ps lp j
+
+-- ---- cells, row by row
+
+pub has_rows-none : (n : ℕ) (f : ℕ → ℕ → ℕ) → HasRows n 0 f []
+has_rows-none n f = record { len = omega arith; at = λ i j li lj. absurd (omega arith) }
+
+pub has_rows-more : (n count : ℕ) (f : ℕ → ℕ → ℕ) (cells row : List ℕ) → HasRows n count f cells → length row ≡ n → ((j : ℕ) → j < n → get_or row j 0 ≡ f count j) → HasRows n (count + 1) f (cells ++ row)
+has_rows-more n count f cells row before long is = record {
+  len = length-append cells row ∙ ap₂ (λ (a b : ℕ). a + b) before.len long ∙ (let e : count * n + n ≡ (count + 1) * n = omega arith in e);
+  at = cells_more cells row count n f before.len long before.at is;
+}
 
 -- the cells have the entries of the erasure's matrix
 pub cells_same : (points erased parities cells : List ℕ) (n : ℕ) → length erased ≡ n → length parities ≡ n → HasRows (length erased) (length parities) (entry points erased parities) cells
@@ -66,12 +76,3 @@ is_plan-from points width erased parities chosen cells inverse b narrow erasure 
   bytes = li;
   inverts = plan_inverts points erased parities cells inverse b erasure.even rows inv has li;
 }
-
--- a matrix that sends only the zero list to zero has no kernel list
-pub no_kernel : (n : ℕ) (a : ℕ → ℕ → ℕ) (x : List ℕ) → OnlyZero n a → IsKernel n a x → ⊥
-no_kernel n a x only k =
-    let (j, one, zeros) = k.begins_with_one in
-    elim (cases_lt j n) [
-      | inl lt ↦ (let zero = only (λ i. get_or x i 0) k.bytes k.to_zero j lt in omega arith)
-      | inr le ↦ (let long = k.len in let zero = get_or_past x j 0 (omega arith) in omega arith)
-    ]

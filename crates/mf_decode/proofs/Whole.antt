@@ -7,7 +7,7 @@ use Rattle.std.proofs.lemmas.Option.{slice_get-get_or}
 use Rattle.mf_erasure.specs.Erasure.{IsErasure}
 use Rattle.mf_erasure.proofs.Others.{Rises, rises_none, rises_cons}
 use Rattle.mf_erasure.proofs.Places.{places_from}
-use Rattle.mf_decode.specs.Stripes.{Stripe, IsDataList, parity_of}
+use Rattle.mf_decode.specs.Stripes.{Stripe, IsChunk, IsDataList, parity_of}
 use Rattle.mf_decode.specs.declared.pieces.Asked.{Asked}
 use Rattle.mf_decode.specs.declared.pieces.Place.{Place}
 use Rattle.mf_decode.specs.Answers.{had, missing, IsAsking}
@@ -80,10 +80,10 @@ parity_sizes stripe size numbers chunks e are k d lt =
 
 -- the data list of the stripe agrees with what was found and had
 list_agrees : (stripe : Stripe) (size count width : ℕ) (points erased : List ℕ) (found : List (Option (List ℕ))) (numbers : List ℕ) (chunks list : List (List ℕ)) → IsStripe size count points stripe
-    → length found ≡ stripe.count → ArePieces stripe found → AreParities stripe numbers chunks → stripe.pieces ≡ Some list → IsDataList count size list
+    → length found ≡ stripe.count → ArePieces stripe found → AreParities stripe numbers chunks → stripe.pieces ≡ Some list → IsDataList stripe.count stripe.size list
     → Agrees (record { points = points; width = width; erased = erased; parities = numbers }) size found chunks list
 list_agrees stripe size count width points erased found numbers chunks list is long are parities some d = record {
-  list_is = record { len = d.len ∙ sym (long ∙ is.count_is); chunks = d.chunks };
+  list_is = record { len = d.len ∙ sym long; chunks = subst (λ (n : ℕ). All (IsChunk n) list) is.size_is d.chunks };
   pieces_are = λ t chunk h. subst (λ (o : Option (List (List ℕ))). IfSome o (λ l. slice_get l t ≡ Some chunk)) some (are t chunk h).agrees;
   parities_are =
       let given : List ℕ = map (λ p. get_or points p 0) numbers in
@@ -102,7 +102,7 @@ list_agrees stripe size count width points erased found numbers chunks list is l
 
 -- all chunks of the stripe
 pub is_whole : (stripe : Stripe) (size count width : ℕ) (points erased : List ℕ) (found : List (Option (List ℕ))) (numbers : List ℕ) (chunks all : List (List ℕ)) → IsStripe size count points stripe
-    → length found ≡ stripe.count → ArePieces stripe found → AreParities stripe numbers chunks → IfSome stripe.pieces (IsDataList count size) → IsDataList (length found) size all
+    → length found ≡ stripe.count → ArePieces stripe found → AreParities stripe numbers chunks → IfSome stripe.pieces (IsDataList stripe.count stripe.size) → IsDataList (length found) size all
     → ((list : List (List ℕ)) → Agrees (record { points = points; width = width; erased = erased; parities = numbers }) size found chunks list → list ≡ all) → IsWhole stripe all
 is_whole stripe size count width points erased found numbers chunks all is long are parities given d only = record {
   len = d.len ∙ long;
@@ -112,7 +112,7 @@ is_whole stripe size count width points erased found numbers chunks all is long 
   where
     at : (o : Option (List (List ℕ))) → stripe.pieces ≡ o → IfSome o (λ list. all ≡ list)
     at None e = tt
-    at (Some list) e = sym (only list (list_agrees stripe size count width points erased found numbers chunks list is long are parities e (subst (λ (o : Option (List (List ℕ))). IfSome o (IsDataList count size)) e given)))
+    at (Some list) e = sym (only list (list_agrees stripe size count width points erased found numbers chunks list is long are parities e (subst (λ (o : Option (List (List ℕ))). IfSome o (IsDataList stripe.count stripe.size)) e given)))
 
 -- ---- the asking
 

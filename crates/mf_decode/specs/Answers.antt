@@ -1,5 +1,6 @@
 -- The answers of a stripe, and the order of an asking.
-use Rattle.std.specs.Prelude.{ℕ, ◌≡◌, ◌+◌, ◌<◌, ◌≤◌, ◌⊎◌, Bool, List, [], ◌∷◌, ◌++◌, length, take, count_by, not, Option, Some, None, Result, Ok, Err, is_some}
+use Rattle.std.specs.Prelude.{ℕ, ◌≡◌, ◌+◌, ◌<◌, ◌≤◌, ◌⊎◌, Bool, List, [], ◌∷◌, ◌++◌, length, take, count_by, not}
+use Rattle.std.specs.Prelude.{Option, Some, None, Result, Ok, Err, is_some}
 use Rattle.std.specs.declared.alloc.AllocError.{AllocError}
 use Rattle.mf_decode.specs.declared.pieces.Asked.{Asked}
 use Rattle.mf_decode.specs.declared.pieces.Place.{Place}
@@ -32,9 +33,9 @@ abbrev pub parities_from : ℕ → List Bool → List Asked
 parities_from p [] = []
 parities_from p (h ∷ hs) = record { place = place.Parity p; had = h } ∷ parities_from (p + 1) hs
 
--- A whole asking of `count` pieces and of the parities of `points` points, by what was had of each. The pieces are asked for once
--- each, ascending. Then the parities are, ascending, each only while fewer have been had than pieces are missing, until as many
--- have been had or all were asked for.
+-- A whole asking of `count` pieces and of the parities of `points` points, by what was had of each. The pieces are
+-- asked for once each, ascending. Then the parities are, ascending, each only while fewer have been had than pieces are
+-- missing, until as many have been had or all were asked for.
 pub record IsAsking (count points : ℕ) (pieces parities : List Bool) (asked : List Asked) : Type 0 where
   pub order : asked ≡ pieces_from 0 pieces ++ parities_from 0 parities
   pub each : length pieces ≡ count
@@ -44,15 +45,21 @@ pub record IsAsking (count points : ℕ) (pieces parities : List Bool) (asked : 
 
 -- A whole asking that has as many parities as pieces are missing.
 abbrev pub IsServed : ℕ → ℕ → List Asked → Type 0
-IsServed count points asked = (pieces parities : List Bool) × IsAsking count points pieces parities asked × (had parities ≡ missing pieces)
+IsServed count points asked =
+    (pieces parities : List Bool) × IsAsking count points pieces parities asked
+    × (had parities ≡ missing pieces)
 
 -- A whole asking that is short: all parities were asked for, and fewer were had than pieces are missing.
 abbrev pub IsShort : ℕ → ℕ → List Asked → Type 0
-IsShort count points asked = (pieces parities : List Bool) × IsAsking count points pieces parities asked × (had parities < missing pieces)
+IsShort count points asked =
+    (pieces parities : List Bool) × IsAsking count points pieces parities asked
+    × (had parities < missing pieces)
 
 -- The front of a whole asking.
 abbrev pub IsBegun : ℕ → ℕ → List Asked → Type 0
-IsBegun count points asked = (pieces parities : List Bool) × (rest : List Asked) × IsAsking count points pieces parities (asked ++ rest)
+IsBegun count points asked =
+    (pieces parities : List Bool) × (rest : List Asked)
+    × IsAsking count points pieces parities (asked ++ rest)
 
 -- The place at which an asking that began so goes on.
 abbrev pub IsNext : ℕ → ℕ → List Asked → Place → Type 0

@@ -7,7 +7,7 @@ use Rattle.mf_rules.specs.Sums.{sum_below}
 abbrev pub there : List (Option ℕ) → List ℕ
 there bytes = map (λ o. unwrap_or o 0) bytes
 
--- The weight of piece t in an erased chunk: the sum, over the parities j, of entry j of the chunk's row of the inverse times
--- point j to the power of t.
+-- The weight of piece t in an erased chunk: the sum, over the parities j, of entry j of the chunk's row of the inverse
+-- times point j to the power of t.
 abbrev pub weight_of : List ℕ → List ℕ → ℕ → ℕ
 weight_of row points t = sum_below (length points) (λ j. times (slice_index row j) (power (slice_index points j) t))

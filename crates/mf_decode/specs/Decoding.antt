@@ -8,8 +8,8 @@ use Rattle.mf_rules.specs.Rows.{column}
 use Rattle.mf_rules.specs.Decodable.{IsData}
 use Rattle.mf_decode.specs.Stripes.{IsDataList, parity_of}
 
--- A plan: of stripes of this width with these points, the places of the erased data, and the numbers of the parities that are
--- had in their stead.
+-- A plan: of stripes of this width with these points, the places of the erased data, and the numbers of the parities
+-- that are had in their stead.
 pub record Plan : Type 0 where
   pub points : List ℕ
   pub width : ℕ
@@ -37,9 +37,10 @@ filled other (None ∷ xs) (y ∷ fillings) = y ∷ filled other xs fillings
 abbrev pub rows : List (Vec ℕ Global) → List (List ℕ)
 rows vectors = map (λ v. v.items) vectors
 
--- A data list of chunks of `size` bytes agrees with what was handed in: each piece that is there is its chunk, and the parities are
--- its parities.
-pub record Agrees (plan : Plan) (size : ℕ) (pieces : List (Option (List ℕ))) (parities : List (List ℕ)) (list : List (List ℕ)) : Type 0 where
+-- A data list of chunks of `size` bytes agrees with what was handed in: each piece that is there is its chunk, and the
+-- parities are its parities.
+pub record Agrees (plan : Plan) (size : ℕ) (pieces : List (Option (List ℕ))) (parities : List (List ℕ))
+    (list : List (List ℕ)) : Type 0 where
   pub list_is : IsDataList (length pieces) size list
   pub pieces_are : (t : ℕ) (chunk : List ℕ) → slice_get pieces t ≡ Some (Some chunk) → slice_get list t ≡ Some chunk
   pub parities_are : parities ≡ map (λ point. parity_of size point list) (points_of plan)
@@ -48,14 +49,16 @@ pub record Agrees (plan : Plan) (size : ℕ) (pieces : List (Option (List ℕ)))
 abbrev pub column_of : ℕ → List (Option (List ℕ)) → List (Option ℕ)
 column_of x pieces = map (λ o. option_map (λ chunk. slice_index chunk x) o) pieces
 
--- The same for one column: a list of data bytes agrees with the bytes that are there, and its parities with these points are the
--- parity bytes.
+-- The same for one column: a list of data bytes agrees with the bytes that are there, and its parities with these
+-- points are the parity bytes.
 pub record AgreesInColumn (points : List ℕ) (bytes : List (Option ℕ)) (parities : List ℕ) (list : List ℕ) : Type 0 where
   pub list_is : IsData (length bytes) list
   pub pieces_are : (t b : ℕ) → slice_get bytes t ≡ Some (Some b) → slice_get list t ≡ Some b
   pub parities_are : parities ≡ map (λ point. weighted point list) points
 
 -- b is byte t of the one list of data bytes that agrees with column x of what was handed in.
-pub record IsDecodedAt (plan : Plan) (pieces : List (Option (List ℕ))) (parities : List (List ℕ)) (x t b : ℕ) : Type 0 where
+pub record IsDecodedAt (plan : Plan) (pieces : List (Option (List ℕ))) (parities : List (List ℕ)) (x t b : ℕ)
+    : Type 0 where
   pub agreeing : (list : List ℕ) × AgreesInColumn (points_of plan) (column_of x pieces) (column x parities) list
-  pub only : (list : List ℕ) → AgreesInColumn (points_of plan) (column_of x pieces) (column x parities) list → slice_index list t ≡ b
+  pub only : (list : List ℕ) → AgreesInColumn (points_of plan) (column_of x pieces) (column x parities) list
+      → slice_index list t ≡ b

@@ -1,5 +1,6 @@
 -- What the two halves of an asking leave, as far as they came.
-use Rattle.std.specs.Prelude.{ℕ, ◌≡◌, ◌+◌, ◌<◌, ◌≤◌, ◌⊎◌, Bool, true, false, List, [], ◌∷◌, ◌++◌, length, take, map, slice_index, slice_get, Option, Some, None, is_some}
+use Rattle.std.specs.Prelude.{ℕ, ◌≡◌, ◌+◌, ◌<◌, ◌≤◌, ◌⊎◌, Bool, true, false, Option, Some, None, is_some}
+use Rattle.std.specs.Prelude.{List, [], ◌∷◌, ◌++◌, length, take, map, slice_index, slice_get}
 use Rattle.std.specs.List.{slice_index_or}
 use Rattle.mf_decode.specs.declared.pieces.Asked.{Asked}
 use Rattle.mf_decode.specs.declared.pieces.Place.{Place}
@@ -23,7 +24,8 @@ pub record AreParities (stripe : Stripe) (numbers : List ℕ) (chunks : List (Li
   pub each : (j : ℕ) → j < length numbers → IsParity stripe (slice_index numbers j) (slice_index_or chunks j [])
 
 -- All pieces were asked for, and these were found.
-pub record PiecesAsked (stripe : Stripe) (before after : List Asked) (failure : Option Place) (found : List (Option (List ℕ))) : Type 0 where
+pub record PiecesAsked (stripe : Stripe) (before after : List Asked) (failure : Option Place)
+    (found : List (Option (List ℕ))) : Type 0 where
   pub answers : after ≡ before ++ pieces_from 0 (map is_some found)
   pub count : length found ≡ stripe.count
   pub each : ArePieces stripe found
@@ -43,7 +45,8 @@ pub record ParitiesInOrder (points wanted : ℕ) (before after : List Asked) (hs
   pub needed : (p : ℕ) → p < length hs → had (take p hs) < wanted
 
 -- The parities were asked for until as many as wanted had been had, or all were asked for.
-pub record ParitiesAsked (stripe : Stripe) (wanted : ℕ) (before after : List Asked) (failure : Option Place) (numbers : List ℕ) (chunks : List (List ℕ)) (hs : List Bool) : Type 0 where
+pub record ParitiesAsked (stripe : Stripe) (wanted : ℕ) (before after : List Asked) (failure : Option Place)
+    (numbers : List ℕ) (chunks : List (List ℕ)) (hs : List Bool) : Type 0 where
   pub order : ParitiesInOrder (length stripe.points) wanted before after hs
   pub numbers_are : numbers ≡ had_from 0 hs
   pub each : AreParities stripe numbers chunks

@@ -29,12 +29,13 @@ IsAnswer stripe (All chunks) = IsWhole stripe chunks.items
 IsAnswer stripe Short = ⊤
 IsAnswer stripe Memory = ⊤
 
--- What was asked for, by the answer: All and Short end a whole asking. Memory cuts one, and where an error of the pieces or the
--- parities did so, its place is the next one.
+-- What was asked for, by the answer: All and Short end a whole asking. Memory cuts one, and where an error of the
+-- pieces or the parities did so, its place is the next one.
 abbrev pub HasAsked : ℕ → ℕ → List Asked → Option Place → Gathered → Type 0
 HasAsked count points asked failure (All chunks) = IsServed count points asked × (failure ≡ None)
 HasAsked count points asked failure Short = IsShort count points asked × (failure ≡ None)
-HasAsked count points asked failure Memory = MatchOption failure (IsBegun count points asked) (IsNext count points asked)
+HasAsked count points asked failure Memory =
+    MatchOption failure (IsBegun count points asked) (IsNext count points asked)
 
 -- The answer as an enum: an error is want of memory, and nothing is a short asking.
 abbrev pub answer_of : Result (Option (Vec (List ℕ) Global)) AllocError → Gathered

@@ -5,3 +5,4 @@ pub mod Decoding
 pub mod Plans
 pub mod Columns
 pub mod Gathering
+pub mod Letters

@@ -1,6 +1,7 @@
 //! Decoding by a plan: the one data list that agrees with what was handed in.
-ghost use Rattle.std.specs.Prelude.{◌≡◌, ℕ, ◌+◌, ◌*◌, ◌^◌, ◌<◌, ◌≤◌, List, [], Some, length, slice_index, slice_get, bit_xor, All, IfOk, IfSome};
-ghost use Rattle.mf_rules.specs.Field.{times, power};
+ghost use Rattle.std.specs.Prelude.{◌≡◌, ℕ, ◌+◌, ◌^◌, ◌<◌, ◌≤◌, List, [], Some, length};
+ghost use Rattle.std.specs.Prelude.{slice_index, slice_get, bit_xor, All, IfOk, IfSome};
+ghost use Rattle.mf_rules.specs.Field.{times};
 ghost use Rattle.mf_rules.specs.Sums.{sum_below};
 ghost use Rattle.mf_rules.specs.Rows.{column};
 ghost use Rattle.mf_decode.specs.Stripes.{IsChunk};

@@ -1,5 +1,5 @@
 //! The order of an asking: each piece once, then parities while pieces are missing.
-ghost use Rattle.std.specs.Prelude.{◌≡◌, ℕ, ◌<◌, ◌≤◌, List, Bool, None, length, MatchResult};
+ghost use Rattle.std.specs.Prelude.{◌≡◌, ◌<◌, List, Bool, None, length, MatchResult};
 ghost use Rattle.mf_decode.specs.Fronts.{PiecesAsked, PiecesCut, ParitiesAsked, ParitiesCut};
 
 use crate::pieces::Pieces;

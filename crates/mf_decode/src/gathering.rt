@@ -1,10 +1,10 @@
 //! Gathering: the data of a stripe from what can be had of it.
-ghost use Rattle.std.specs.Prelude.{◌≡◌, ℕ, ◌^◌, ◌<◌, ◌≤◌, ◌++◌, List, [], None, length, slice_index, slice_index_or, All, IfOk, IfSome, MatchResult, MatchOption};
+ghost use Rattle.std.specs.Prelude.{◌≡◌, ℕ, ◌^◌, ◌<◌, ◌≤◌, ◌++◌, List, [], None};
+ghost use Rattle.std.specs.Prelude.{length, slice_index_or, All, IfOk, IfSome};
 ghost use Rattle.mf_rules.specs.Decodable.{IsDecodable};
 ghost use Rattle.mf_erasure.specs.Erasure.{IsErasure};
 ghost use Rattle.mf_decode.specs.declared.pieces.Asked.{Asked};
 ghost use Rattle.mf_decode.specs.Stripes.{IsDataList};
-ghost use Rattle.mf_decode.specs.Answers.{IsServed, IsShort, IsBegun, IsNext};
 ghost use Rattle.mf_decode.specs.Decoding.{Agrees, gaps_from, filled, rows};
 ghost use Rattle.mf_decode.specs.Gathering.{IsStripe, IsWhole, IsAnswer, HasAsked, answer_of};
 
@@ -41,7 +41,6 @@ pub fn gather<P: Pieces>(
     requires decodable { IsDecodable points.now width }
     requires count { count ≤ width }
     requires stripe { IsStripe chunk count points.now (P.stripe pieces.old) }
-    requires list { IfSome (P.stripe pieces.old).pieces (IsDataList count chunk) }
     requires unbroken { P.failure pieces.old ≡ None }
     ensures answer { IsAnswer (P.stripe pieces.old) result }
     ensures asked { (asked : List Asked) × (P.answers pieces.new ≡ P.answers pieces.old ++ asked)
@@ -70,7 +69,6 @@ fn try_gather<P: Pieces>(
     requires decodable { IsDecodable points.now width }
     requires count { count ≤ width }
     requires stripe { IsStripe chunk count points.now (P.stripe pieces.old) }
-    requires list { IfSome (P.stripe pieces.old).pieces (IsDataList count chunk) }
     requires unbroken { P.failure pieces.old ≡ None }
     ensures answer { IfOk result (λ o. IfSome o
         (λ chunks. IsWhole (P.stripe pieces.old) chunks.items)) }
@@ -127,8 +125,7 @@ fn restored(
           points = points.now;
           width = width;
           erased = erased.now;
-          parities =
-              had.now.numbers.items;
+          parities = had.now.numbers.items;
         }) chunk found.items had.now.chunks.items list
         → list ≡ chunks.items) }
 {

@@ -1,6 +1,6 @@
 //! Where the chunks of a stripe are asked for.
-ghost use Rattle.std.specs.Prelude.{◌≡◌, ℕ, ◌<◌, List, Option, None, length, IfOk, IfSome};
-ghost use Rattle.mf_decode.specs.Stripes.{Stripe, IsPiece, IsParity};
+ghost use Rattle.std.specs.Prelude.{◌≡◌, ◌<◌, List, Option, None, length, IfOk, IfSome};
+ghost use Rattle.mf_decode.specs.Stripes.{Stripe, IsDataList, IsPiece, IsParity};
 ghost use Rattle.mf_decode.specs.Answers.{answers_after, failure_of};
 ghost use Rattle.mf_decode.specs.declared.pieces.Asked.{Asked};
 ghost use Rattle.mf_decode.specs.declared.pieces.Place.{Place};
@@ -57,4 +57,8 @@ pub trait Pieces {
         ensures failure { Self.failure self.new ≡ failure_of (place.Parity p) result }
         ensures stays { (Self.stripe self.new ≡ Self.stripe self.old)
             × (Self.made self.new ≡ Self.made self.old) };
+
+    /// The data list, where there is one, has as many chunks as the stripe has pieces, each of the stripe's length.
+    ghost shape: { (s : Self) → IfSome (Self.stripe s).pieces
+        (IsDataList (Self.stripe s).count (Self.stripe s).size) };
 }

@@ -1,8 +1,9 @@
 //! Plans: which data of a stripe is erased, which parities are had in its stead, and the inverse that leads back.
-ghost use Rattle.std.specs.Prelude.{◌≡◌, ℕ, ◌+◌, ◌*◌, ◌<◌, ◌≤◌, ◌++◌, List, length, map, slice_index, OnOk, IfOk, IfErr};
+ghost use Rattle.std.specs.Prelude.{◌≡◌, ℕ, ◌<◌, ◌≤◌, ◌++◌, length, map, slice_index};
+ghost use Rattle.std.specs.Prelude.{OnOk, IfOk, IfErr};
 ghost use Rattle.mf_rules.specs.Field.{power};
 ghost use Rattle.mf_rules.specs.Rows.{list_of};
-ghost use Rattle.mf_matrix.specs.Matrix.{Grid, entry as cell_at};
+ghost use Rattle.mf_matrix.specs.Matrix.{entry as cell_at};
 ghost use Rattle.mf_matrix.specs.Tables.{HasInverse};
 ghost use Rattle.mf_erasure.specs.Erasure.{entry, IsErasure};
 ghost use Rattle.mf_decode.specs.Plans.{IsNoPlan, HasRows, no_plan_of};
@@ -32,9 +33,19 @@ impl Model for DecodePlan {
 
     ghost Value = { Plan };
 
-    ghost view = { λ p. record { points = p.points.items; width = p.width; erased = p.erased.items; parities = p.parities.items } };
+    ghost view = { λ p. record {
+      points = p.points.items;
+      width = p.width;
+      erased = p.erased.items;
+      parities = p.parities.items;
+    } };
 
-    ghost invariant = { λ p. IsPlan (record { points = p.points.items; width = p.width; erased = p.erased.items; parities = p.parities.items }) p.chosen.items p.inverse.items };
+    ghost invariant = { λ p. IsPlan (record {
+      points = p.points.items;
+      width = p.width;
+      erased = p.erased.items;
+      parities = p.parities.items;
+    }) p.chosen.items p.inverse.items };
 }
 
 /// Why there is no plan.

@@ -1,24 +1,39 @@
-//! Gatherings from a stripe in memory that loses.
-ghost use Rattle.std.specs.Prelude.{◌≡◌, ℕ, ◌<◌, ◌≤◌, ◌∷◌, [], None, Ok, length, IfOk, IfSome};
+//! Gatherings from a stripe of letters that loses.
+ghost use Rattle.std.specs.Prelude.{◌≡◌, ◌<◌, None, Ok, replicate, IfOk, IfSome};
 ghost use Rattle.mf_decode.specs.Answers.{answers_after, failure_of};
+ghost use Rattle.mf_decode.specs.Gathering.{IsAnswer};
+ghost use Rattle.mf_decode.specs.Letters.{stripe_of_letters};
 
 use crate::{Asked, Chunk, Gathered, Memory, Pieces, Place, gather};
 use std::alloc::{AllocError, Global};
 use std::process::Abort;
 use std::test::Fail;
 
-// A stripe in memory with one parity by the point 1. For what is lost there is no chunk.
+// A stripe of four pieces of `size` bytes, each of one letter again and again, and their parity by the point 1. Bit t
+// of `lost` says that piece t is lost, and bit 31 that the parity is. For what is lost there is no chunk.
 #[derive(Drop)]
-struct InMemory {
+struct Letters {
+    alloc: Global,
     size: u32,
-    pieces: Vec<Chunk>,
-    parity: Chunk,
     lost: u32,
     answers: Vec<Asked>,
     failure: Option<Place>,
 }
 
-impl InMemory {
+impl Letters {
+    // None was asked for yet.
+    fn new(alloc: Global, size: u32, lost: u32) -> Letters
+        ensures { result.failure ≡ None }
+    {
+        Letters {
+            alloc,
+            size,
+            lost,
+            answers: Vec::new(alloc),
+            failure: None,
+        }
+    }
+
     // The answer, told and kept.
     fn told(
         &mut self,
@@ -30,7 +45,7 @@ impl InMemory {
         ensures answers { self.new.answers.items
             ≡ answers_after place result self.old.answers.items }
         ensures failure { self.new.failure ≡ failure_of place result }
-        ensures stays { (self.new.size ≡ self.old.size) × (self.new.pieces ≡ self.old.pieces) }
+        ensures stays { self.new.size ≡ self.old.size }
     {
         match answer {
             Ok(chunk) => {
@@ -48,22 +63,23 @@ impl InMemory {
         }
     }
 
-    // A further owner of the chunk, where it isn't lost.
-    fn shared(&self, chunk: &Chunk, bit: u32) -> Result<Option<Chunk>, Memory>
+    // A chunk of this byte again and again, where that bit doesn't say that it is lost.
+    fn repeated(&self, byte: u8, bit: u32) -> Result<Option<Chunk>, Memory>
         requires { bit < 32 }
-        ensures { IfOk result (λ o. IfSome o (λ bytes. length bytes ≡ self.now.size)) }
+        ensures { IfOk result (λ o. IfSome o (λ bytes. bytes ≡ replicate self.now.size byte)) }
     {
-        if self.lost >> bit & 1 == 1 || chunk.bytes().len() != self.size as usize {
+        if self.lost >> bit & 1 == 1 {
             return Ok(None);
         }
-        Ok(Some(chunk.share()?))
+        let bytes = vec![in self.alloc; byte; self.size as usize]?;
+        Ok(Some(Chunk::new(self.alloc, bytes)?))
     }
 }
 
-impl Pieces for InMemory {
-    ghost use Rattle.mf_decode.specs.Stripes.{Stripe};
+impl Pieces for Letters {
+    ghost use Rattle.mf_decode.specs.Letters.{stripe_of_letters, letters_shape};
 
-    ghost stripe = { λ s. record { size = s.size; points = 1 ∷ []; count = length s.pieces.items; pieces = None } };
+    ghost stripe = { λ s. stripe_of_letters s.size };
 
     ghost made = { λ _. tt };
 
@@ -71,45 +87,27 @@ impl Pieces for InMemory {
 
     ghost failure = { λ s. s.failure };
 
+    ghost shape = { λ s. letters_shape s.size };
+
     fn piece(&mut self, t: u32) -> Result<Option<Chunk>, Memory> {
-        let answer = self.shared(&self.pieces[t as usize], t % 32);
+        let answer = self.repeated(b"abcd"[t as usize], t);
         self.told(Place::Piece(t), answer)
     }
 
+    #[tactic(auto, using(crate::proofs::Letters::letters_parity))]
     fn parity(&mut self, p: u32) -> Result<Option<Chunk>, Memory> {
-        let answer = self.shared(&self.parity, 31 - p);
+        let answer = self.repeated(b'a' ^ b'b' ^ b'c' ^ b'd', 31 - p);
         self.told(Place::Parity(p), answer)
     }
 }
 
-// A stripe of four pieces of `size` bytes, each of one letter again and again, and of their sum. Bit t of `lost` says
-// that piece t is lost, and bit 31 that the parity is.
-fn stripe_of(alloc: Global, size: u32, lost: u32) -> Result<InMemory, Memory>
-    ensures { IfOk result (λ store. store.failure ≡ None) }
+// What can be had of the letters.
+fn gather_from(alloc: Global, store: &mut Letters) -> Gathered
+    requires { store.old.failure ≡ None }
+    ensures { IsAnswer (stripe_of_letters store.old.size) result }
 {
-    let mut pieces = Vec::new(alloc);
-    for letter in b"abcd" {
-        pieces.push(Chunk::new(alloc, vec![in alloc; *letter; size as usize]?)?)?;
-    }
-    let sum = b'a' ^ b'b' ^ b'c' ^ b'd';
-    Ok(InMemory {
-        size,
-        pieces,
-        parity: Chunk::new(alloc, vec![in alloc; sum; size as usize]?)?,
-        lost,
-        answers: Vec::new(alloc),
-        failure: None,
-    })
-}
-
-// What can be had of a stripe of at most four pieces.
-fn gather_from(alloc: Global, store: &mut InMemory) -> Gathered
-    requires few { length store.old.pieces.items ≤ 4 }
-    requires unbroken { store.old.failure ≡ None }
-{
-    let count = store.pieces.len() as u32;
     let size = store.size;
-    gather(alloc, store, &[1], 4, count, size)
+    gather(alloc, store, &[1], 4, 4, size)
 }
 
 // Each piece was asked for once, ascending, and then the parity, where a piece was lost.
@@ -139,8 +137,7 @@ fn gathers_what_can_be_had(rt: HostRuntime) -> Result<(), Fail> {
     for size in [1, 4_095, 4_096, 4_097] {
         for set in 0..32u32 {
             let lost = set & 15 | (set >> 4) << 31;
-            let mut store = stripe_of(alloc, size, lost)?;
-            assert_eq!(rt; store.pieces.len(), 4);
+            let mut store = Letters::new(alloc, size, lost);
             let missing = (lost & 15).count_ones();
             match gather_from(alloc, &mut store) {
                 Gathered::All(chunks) => {

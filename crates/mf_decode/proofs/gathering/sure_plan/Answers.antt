@@ -1,7 +1,7 @@
 use Rattle.std.proofs.Common.{length}
 use Rattle.mf_erasure.specs.Erasure.{entry}
 use Rattle.mf_erasure.proofs.Places.{only_zero_of_erasure}
-use Rattle.mf_decode.proofs.Planned.{no_kernel}
+use Rattle.mf_matrix.proofs.Same.{no_kernel}
 use Rattle.mf_decode.proofs.gathering.sure_plan.Goals as goal
 
 pub unreachable-requires : goal.unreachable-requires

@@ -119,7 +119,7 @@ returns-clause-answer g c =
     let numbers = c.in_ok-had.had.numbers.items in
     let chunks = c.in_ok-had.had.chunks.items in
     is_whole stripe c.args.chunk c.args.count c.args.width c.args.points.now c.as_slice-2.result.now c.in_ok-found.found.items numbers chunks c.in_ok-restored.field-0.items c.requires.stripe pieces.count pieces.each
-    (subst (λ (s : Stripe). AreParities s numbers chunks) c.in_ok-found.ensures.stays.0 asked.each) c.requires.list c.in_ok-restored.ensures.data c.in_ok-restored.ensures.only
+    (subst (λ (s : Stripe). AreParities s numbers chunks) c.in_ok-found.ensures.stays.0 asked.each) (g.met.P.Pieces.shape c.args.pieces.now) c.in_ok-restored.ensures.data c.in_ok-restored.ensures.only
 
 pub returns-clause-asked : goal.returns-clause-asked
 returns-clause-asked g c =

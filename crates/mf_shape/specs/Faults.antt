@@ -4,7 +4,8 @@ use Rattle.mf_shape.specs.declared.Stage.{Stage}
 use Rattle.mf_shape.specs.declared.ShapeFault.{ShapeFault}
 use Rattle.mf_shape.specs.declared.ShapeFault.TheVariants as fault
 use Rattle.mf_shape.specs.Stages.{stage_at, columns}
-use Rattle.mf_shape.specs.Chain.{HasWidth, HasParities, HasCopies, MultipliesWidth, KeepsParities, KeepsCopies, FitsParities, FitsCopies, FitsServers}
+use Rattle.mf_shape.specs.Chain.{HasWidth, HasParities, HasCopies, MultipliesWidth, KeepsParities, KeepsCopies}
+use Rattle.mf_shape.specs.Chain.{FitsParities, FitsCopies, FitsServers}
 
 -- stage g breaks a limit
 abbrev pub Breaks : List Stage → (Stage → Type 0) → ℕ → Type 0

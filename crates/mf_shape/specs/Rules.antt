@@ -6,7 +6,8 @@ use Rattle.mf_shape.specs.declared.rules.Limit.TheVariants as limit
 use Rattle.mf_shape.specs.declared.rules.Step.{Step}
 use Rattle.mf_shape.specs.declared.rules.Step.TheVariants as step
 use Rattle.mf_shape.specs.Stages.{stage_at}
-use Rattle.mf_shape.specs.Chain.{HasWidth, HasParities, HasCopies, MultipliesWidth, KeepsParities, KeepsCopies, FitsParities}
+use Rattle.mf_shape.specs.Chain.{HasWidth, HasParities, HasCopies, MultipliesWidth}
+use Rattle.mf_shape.specs.Chain.{KeepsParities, KeepsCopies, FitsParities}
 
 -- the stage keeps this limit
 abbrev pub KeepsLimit : Limit → Stage → Type 0

@@ -66,7 +66,8 @@ impl Model for Shape {
 
     ghost view = { λ shape. record { stages = shape.stages.items; servers = shape.servers } };
 
-    ghost invariant = { λ shape. IsShape (record { stages = shape.stages.items; servers = shape.servers }) };
+    ghost invariant = { λ shape.
+        IsShape (record { stages = shape.stages.items; servers = shape.servers }) };
 }
 
 impl Shape {
@@ -75,11 +76,13 @@ impl Shape {
     /// The faults are tried kind by kind, in the order of `ShapeFault`, and within a kind for the
     /// least stage. Memory is asked for last.
     pub fn new(alloc: Global, stages: &[Stage], servers: u32) -> Result<Shape, ShapeFault>
-        ensures kept { IfOk result (λ shape. (shape ≡ record { stages = stages.now; servers = servers }) × IsShape shape) }
+        ensures kept { IfOk result (λ shape.
+            (shape ≡ record { stages = stages.now; servers = servers }) × IsShape shape) }
         ensures refused { IfErr result (IsFirst stages.now servers) }
 
         // The first fault is what is answered, wherever there is one.
-        ensures exactly { (fault : ShapeFault) → fault ≢ ShapeFault.Memory → IsFirst stages.now servers fault → result ≡ Err fault }
+        ensures exactly { (fault : ShapeFault) → fault ≢ ShapeFault.Memory
+            → IsFirst stages.now servers fault → result ≡ Err fault }
     {
         if let Some(fault) = first_fault(stages, servers) {
             return Err(fault);

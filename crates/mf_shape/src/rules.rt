@@ -1,9 +1,11 @@
 //! The rules of a chain as tests, and the first fault of a list of stages.
-ghost use Rattle.std.specs.Prelude.{◌≡◌, ◌≢◌, ℕ, ◌+◌, ◌*◌, ◌<◌, ◌≤◌, ◌↔◌, length, IsTrue, MatchOption, IfSome};
+ghost use Rattle.std.specs.Prelude.{◌≡◌, ◌≢◌, ℕ, ◌+◌, ◌*◌, ◌<◌, ◌≤◌, ◌↔◌, length, IsTrue};
+ghost use Rattle.std.specs.Prelude.{MatchOption, IfSome};
 ghost use Rattle.mf_shape.specs.Stages.{max_width, max_copied_width};
 ghost use Rattle.mf_shape.specs.Chain.{IsChain, IsShape, FitsCopies, FitsServers};
 ghost use Rattle.mf_shape.specs.Faults.{IsFirst};
-ghost use Rattle.mf_shape.specs.Rules.{KeepsLimit, KeepsStep, KeepsLimitAt, KeepsStepAt, FailsFirst, EachStage};
+ghost use Rattle.mf_shape.specs.Rules.{KeepsLimit, KeepsStep, KeepsLimitAt, KeepsStepAt};
+ghost use Rattle.mf_shape.specs.Rules.{FailsFirst, EachStage};
 
 use crate::{ShapeFault, Stage};
 
@@ -52,7 +54,8 @@ impl Step {
 // The least stage that breaks the limit.
 fn first_over(stages: &[Stage], limit: Limit) -> Option<u32>
     requires { length stages.now ≤ 4 }
-    ensures { MatchOption result (EachStage stages.now (KeepsLimitAt stages.now limit)) (FailsFirst stages.now (KeepsLimitAt stages.now limit)) }
+    ensures { MatchOption result (EachStage stages.now (KeepsLimitAt stages.now limit))
+        (FailsFirst stages.now (KeepsLimitAt stages.now limit)) }
 {
     for g in 0..stages.len() {
         if !limit.keeps(stages[g]) {
@@ -65,7 +68,8 @@ fn first_over(stages: &[Stage], limit: Limit) -> Option<u32>
 // The least stage that the step before it leads to against the rule.
 fn first_misstep(stages: &[Stage], step: Step) -> Option<u32>
     requires { length stages.now ≤ 4 }
-    ensures { MatchOption result (EachStage stages.now (KeepsStepAt stages.now step)) (FailsFirst stages.now (KeepsStepAt stages.now step)) }
+    ensures { MatchOption result (EachStage stages.now (KeepsStepAt stages.now step))
+        (FailsFirst stages.now (KeepsStepAt stages.now step)) }
 {
     for g in 1..stages.len() {
         if !step.keeps(stages[g - 1], stages[g]) {
@@ -101,7 +105,8 @@ pub fn greatest_copied_width(stages: &[Stage]) -> u32
 // The fault of a chain that has too little room for its copies or its servers.
 fn first_misfit(stages: &[Stage], servers: u32) -> Option<ShapeFault>
     requires { IsChain stages.now }
-    ensures { MatchOption result (FitsCopies stages.now × FitsServers stages.now servers) (λ fault. (fault ≢ ShapeFault.Memory) × IsFirst stages.now servers fault) }
+    ensures { MatchOption result (FitsCopies stages.now × FitsServers stages.now servers)
+        (λ fault. (fault ≢ ShapeFault.Memory) × IsFirst stages.now servers fault) }
 {
     let width = greatest_width(stages);
     let copied = greatest_copied_width(stages);
@@ -118,7 +123,8 @@ fn first_misfit(stages: &[Stage], servers: u32) -> Option<ShapeFault>
 
 /// The first fault of these stages over so many servers.
 pub fn first_fault(stages: &[Stage], servers: u32) -> Option<ShapeFault>
-    ensures { MatchOption result (IsShape (record { stages = stages.now; servers = servers })) (λ fault. (fault ≢ ShapeFault.Memory) × IsFirst stages.now servers fault) }
+    ensures { MatchOption result (IsShape (record { stages = stages.now; servers = servers }))
+        (λ fault. (fault ≢ ShapeFault.Memory) × IsFirst stages.now servers fault) }
 {
     if stages.is_empty() {
         return Some(ShapeFault::NoStage);

@@ -1,5 +1,6 @@
 -- Decimal numbers of 64 bits: their one spelling, and what a word spells.
-use Rattle.std.specs.Prelude.{◌≡◌, ℕ, ◌^◌, ◌<◌, ◌≤◌, length, slice_index, ◌==◌, ◌&&◌, not, nat_lt, Bool, false, if◌then◌else◌, List, [], ◌∷◌, Option, Some, None, decimal}
+use Rattle.std.specs.Prelude.{◌≡◌, ℕ, ◌^◌, ◌<◌, ◌≤◌, length, slice_index, ◌==◌, ◌&&◌, not, nat_lt, Bool, false}
+use Rattle.std.specs.Prelude.{if◌then◌else◌, List, [], ◌∷◌, Option, Some, None, decimal}
 use Rattle.std.specs.Char.{is_ascii_digit}
 use Rattle.std.specs.Str.{all_ascii_digits}
 use Rattle.std.specs.Str.Parse.{digits_value}
@@ -16,8 +17,10 @@ is_decimal (c ∷ d ∷ rest) = not (c == 48) && all_ascii_digits (c ∷ d ∷ r
 
 -- a word that begins as a number does
 abbrev pub Leads : List ℕ → Type 0
-Leads word = (0 < length word) × (48 ≤ slice_index word 0) × (slice_index word 0 ≤ 57) × (slice_index word 0 ≡ 48 → length word ≡ 1)
+Leads word = (0 < length word) × (48 ≤ slice_index word 0) × (slice_index word 0 ≤ 57)
+    × (slice_index word 0 ≡ 48 → length word ≡ 1)
 
 -- the number that a word spells, where it spells one below 2 ^ 64
 unfoldable pub decimal_of : List ℕ → Option ℕ
-decimal_of word = if is_decimal word && nat_lt (digits_value 10 word) (2 ^ 64) then Some (digits_value 10 word) else None
+decimal_of word =
+    if is_decimal word && nat_lt (digits_value 10 word) (2 ^ 64) then Some (digits_value 10 word) else None

@@ -1,5 +1,6 @@
 -- The lines of a text, where they lie, and the first byte that may not stand in one.
-use Rattle.std.specs.Prelude.{◌≡◌, ℕ, ◌+◌, ◌==◌, ◌&&◌, ◌≤◌, nat_le, not, Bool, if◌then◌else◌, List, [], ◌∷◌, length, Option, Some, None, take, drop, slice_range}
+use Rattle.std.specs.Prelude.{◌≡◌, ℕ, ◌+◌, ◌==◌, ◌&&◌, ◌≤◌, nat_le, not, Bool, if◌then◌else◌, List, [], ◌∷◌, length}
+use Rattle.std.specs.Prelude.{Option, Some, None, take, drop, slice_range}
 use Rattle.std.specs.List.{slice_split, list_all, position_or_len}
 use Rattle.std.specs.Str.Lines.{lines, strip_carriage_return}
 use Rattle.mf_text.specs.declared.lines.Span.{Span}
@@ -29,7 +30,8 @@ pub record IsWithin (n : ℕ) (span : Span) : Type 0 where
 unfoldable pub line_spans_from : ℕ → List (List ℕ) → List Span
 line_spans_from at [] = []
 line_spans_from at (last ∷ []) = if length last == 0 then [] else span_at at last ∷ []
-line_spans_from at (part ∷ next ∷ parts) = span_at at (strip_carriage_return part) ∷ line_spans_from (at + length part + 1) (next ∷ parts)
+line_spans_from at (part ∷ next ∷ parts) =
+    span_at at (strip_carriage_return part) ∷ line_spans_from (at + length part + 1) (next ∷ parts)
 
 -- where the lines of a text lie that itself begins at the byte at
 unfoldable pub spans_from : ℕ → List ℕ → List Span
@@ -43,7 +45,8 @@ line_spans text = spans_from 0 text
 -- behind these, wherever the text begins.
 pub record IsFirstLine (text : List ℕ) (len whole : ℕ) : Type 0 where
   pub line : lines_of text ≡ take len text ∷ lines_of (drop whole text)
-  pub span : (at : ℕ) → spans_from at text ≡ record { start = at; end = at + len } ∷ spans_from (at + whole) (drop whole text)
+  pub span : (at : ℕ) → spans_from at text
+      ≡ record { start = at; end = at + len } ∷ spans_from (at + whole) (drop whole text)
 
 -- a byte that may stand in a line
 abbrev pub is_printable : ℕ → Bool
@@ -60,7 +63,8 @@ bad_column line = position_or_len (λ b. not (is_printable b)) line + 1
 -- the line and column of the first byte that may not stand in a line, where the first line has number n
 unfoldable pub fault_from : ℕ → List (List ℕ) → Option TextFault
 fault_from n [] = None
-fault_from n (line ∷ rest) = if is_clean line then fault_from (n + 1) rest else Some (record { line = n; column = bad_column line })
+fault_from n (line ∷ rest) =
+    if is_clean line then fault_from (n + 1) rest else Some (record { line = n; column = bad_column line })
 
 -- the first byte of a text that may not stand in a line and isn't part of a line's end: its line and column, from 1
 unfoldable pub text_fault : List ℕ → Option TextFault

@@ -1,6 +1,7 @@
 //! Decimal numbers of 64 bits.
 
-ghost use Rattle.std.specs.Prelude.{◌≡◌, ◌≢◌, ◌↔◌, IsTrue, ℕ, ◌+◌, ◌<◌, ◌^◌, ◌++◌, Some, IfSome, IfNone, OnOk, OnErr};
+ghost use Rattle.std.specs.Prelude.{◌≡◌, ◌≢◌, ◌↔◌, IsTrue, ℕ, ◌+◌, ◌<◌, ◌^◌, ◌++◌, Some};
+ghost use Rattle.std.specs.Prelude.{IfSome, IfNone, OnOk, OnErr};
 ghost use Rattle.mf_text.specs.Decimal.{Leads, decimal_text, decimal_of};
 
 use std::alloc::AllocError;

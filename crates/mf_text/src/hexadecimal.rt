@@ -1,7 +1,9 @@
 //! Bytes in hexadecimal.
 
-ghost use Rattle.std.specs.Prelude.{◌≡◌, ◌+◌, ◌*◌, ◌<◌, ◌&&◌, ◌++◌, true, false, MatchOption, IfOk, IfErr, OnOk, OnErr, Some};
-ghost use Rattle.mf_text.specs.Hex.{hex_digit, is_hex_digit, hex_digit_value, hex_text, hex_of, IsHexFault};
+ghost use Rattle.std.specs.Prelude.{◌≡◌, ◌+◌, ◌*◌, ◌<◌, ◌&&◌, ◌++◌, true, false, MatchOption};
+ghost use Rattle.std.specs.Prelude.{IfOk, IfErr, OnOk, OnErr, Some};
+ghost use Rattle.mf_text.specs.Hex.{hex_digit, is_hex_digit, hex_digit_value};
+ghost use Rattle.mf_text.specs.Hex.{hex_text, hex_of, IsHexFault};
 
 use std::alloc::{AllocError, AllocFailed, Global};
 
@@ -46,7 +48,8 @@ fn digit_of(value: u8) -> u8
 }
 
 fn value_of(digit: u8) -> Option<u8>
-    ensures { MatchOption result (is_hex_digit digit ≡ false) (λ v. (is_hex_digit digit ≡ true) × (v ≡ hex_digit_value digit) × (v < 16)) }
+    ensures { MatchOption result (is_hex_digit digit ≡ false)
+        (λ v. (is_hex_digit digit ≡ true) × (v ≡ hex_digit_value digit) × (v < 16)) }
 {
     match digit {
         b'0'..=b'9' => Some(digit - b'0'),
@@ -58,7 +61,8 @@ fn value_of(digit: u8) -> Option<u8>
 // The byte of two digits, the high one first.
 fn byte_of(high: u8, low: u8) -> Option<u8>
     ensures { MatchOption result ((is_hex_digit high && is_hex_digit low) ≡ false)
-        (λ b. ((is_hex_digit high && is_hex_digit low) ≡ true) × (b ≡ 16 * hex_digit_value high + hex_digit_value low)) }
+        (λ b. ((is_hex_digit high && is_hex_digit low) ≡ true)
+        × (b ≡ 16 * hex_digit_value high + hex_digit_value low)) }
 {
     Some(16 * value_of(high)? + value_of(low)?)
 }

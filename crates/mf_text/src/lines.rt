@@ -1,7 +1,9 @@
 //! The lines of a text.
 
-ghost use Rattle.std.specs.Prelude.{◌≡◌, ◌+◌, ◌<◌, ◌≤◌, ◌==◌, not, position, length, map, All, IfOk, IfErr, OnOk, None};
-ghost use Rattle.mf_text.specs.Lines.{lines_of, line_spans, piece, IsWithin, IsFirstLine, is_printable, text_fault, IsSplitFault};
+ghost use Rattle.std.specs.Prelude.{◌≡◌, ◌+◌, ◌<◌, ◌≤◌, ◌==◌, not, position, length, map, All};
+ghost use Rattle.std.specs.Prelude.{IfOk, IfErr, OnOk, None};
+ghost use Rattle.mf_text.specs.Lines.{lines_of, line_spans, piece, IsWithin, IsFirstLine};
+ghost use Rattle.mf_text.specs.Lines.{is_printable, text_fault, IsSplitFault};
 
 use std::alloc::{AllocError, AllocFailed, Global};
 

@@ -6,8 +6,8 @@ use Rattle.mf_shape.specs.Stages.{width_at, parities_at, copies_at, max_width, m
 use Rattle.mf_shape.proofs.Widths.{width_at-le-max_width, one-le-max_width}
 use Rattle.mf_places.specs.declared.Name.{Name}
 use Rattle.mf_places.specs.declared.Name.TheVariants as name
-use Rattle.mf_places.specs.Layout.{Layout, IsLayout, IsApart, Holds, stripe_of, column_of}
-use Rattle.mf_places.proofs.Held.{Holds-from, copies_at-le-first, parities_at-le-first, width_at-le-max_copied}
+use Rattle.mf_places.specs.Layout.{Layout, IsLayout, IsApart, stripe_of, column_of}
+use Rattle.mf_places.proofs.Held.{Holds, Holds-from, copies_at-le-first, parities_at-le-first, width_at-le-max_copied}
 
 -- numbers of one quotient are nearer than the divisor
 near : (i j k : ℕ) → 0 < k → i / k ≡ j / k → i < j + k

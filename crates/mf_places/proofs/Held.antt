@@ -7,8 +7,14 @@ use Rattle.mf_shape.specs.Chain.{IsChain}
 use Rattle.mf_shape.proofs.Widths.{copied_width-le-max}
 use Rattle.mf_places.specs.declared.Name.{Name}
 use Rattle.mf_places.specs.declared.Name.TheVariants as name
-use Rattle.mf_places.specs.Layout.{Layout, parities_of, HasName, holds, Holds}
+use Rattle.mf_places.specs.Layout.{Layout, chunks_of, stripes_of, parities_of, HasName, holds}
 use Rattle.mf_places.proofs.Counts.{parities_at-le-max}
+
+-- generation g holds the name, as a fact
+abbrev pub Holds : Layout → ℕ → Name → Type 0
+Holds l g (name.Data i) = i < chunks_of l
+Holds l g (name.Copy c i) = (c < copies_at l.stages g) × (i < chunks_of l)
+Holds l g (name.Parity width j p) = (width ≡ width_at l.stages g) × (j < stripes_of l width) × (p < parities_at l.stages g)
 
 pub Holds-from : (l : Layout) (g : ℕ) (x : Name) → IsTrue (holds l g x) → Holds l g x
 Holds-from l g (name.Data i) h = grind (arith, nat_tests)

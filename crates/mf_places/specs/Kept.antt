@@ -7,8 +7,14 @@ use Rattle.mf_places.specs.Rows.{IsFirsts}
 
 -- the layout that the fields describe
 abbrev pub layout_of : Inside → Layout
-layout_of b =
-    record { stages = b.stages.items; servers = b.servers; points = b.points.items; chunk = b.chunk; file = b.file; bytes = b.bytes }
+layout_of b = record {
+  stages = b.stages.items;
+  servers = b.servers;
+  points = b.points.items;
+  chunk = b.chunk;
+  file = b.file;
+  bytes = b.bytes;
+}
 
 -- what is kept beside the layout is computed from it, and small
 pub record IsKept (b : Inside) : Type 0 where

@@ -1,5 +1,6 @@
 -- What a book lays out: the names of a file's chunks in their order, and where each lies.
-use Rattle.std.specs.Prelude.{◌≡◌, ℕ, ◌+◌, ◌*◌, ◌/◌, ◌%◌, ◌<◌, ◌≤◌, ◌==◌, ◌&&◌, max, Bool, IsTrue, List, [], ◌∷◌, ◌++◌, length, map, if◌then◌else◌, nat_lt, slice_index_or}
+use Rattle.std.specs.Prelude.{◌≡◌, ℕ, ◌+◌, ◌*◌, ◌/◌, ◌%◌, ◌<◌, ◌≤◌, ◌==◌, ◌&&◌, max, Bool, IsTrue, List, [], ◌∷◌}
+use Rattle.std.specs.Prelude.{◌++◌, length, map, if◌then◌else◌, nat_lt, slice_index_or}
 use Rattle.std.specs.Int.{div_ceil}
 use Rattle.std.specs.List.{flat_map, range_with_len}
 use Rattle.mf_shape.specs.declared.Stage.{Stage}
@@ -81,13 +82,8 @@ HasName l (name.Parity width j p) = (j < stripes_of l width) × (p < parities_of
 abbrev pub holds : Layout → ℕ → Name → Bool
 holds l g (name.Data i) = nat_lt i (chunks_of l)
 holds l g (name.Copy c i) = nat_lt c (copies_at l.stages g) && nat_lt i (chunks_of l)
-holds l g (name.Parity width j p) = (width == width_at l.stages g) && nat_lt j (stripes_of l width) && nat_lt p (parities_at l.stages g)
-
--- the same as a fact
-abbrev pub Holds : Layout → ℕ → Name → Type 0
-Holds l g (name.Data i) = i < chunks_of l
-Holds l g (name.Copy c i) = (c < copies_at l.stages g) × (i < chunks_of l)
-Holds l g (name.Parity width j p) = (width ≡ width_at l.stages g) × (j < stripes_of l width) × (p < parities_at l.stages g)
+holds l g (name.Parity width j p) =
+    (width == width_at l.stages g) && nat_lt j (stripes_of l width) && nat_lt p (parities_at l.stages g)
 
 -- the stripe of generation g that a name belongs to; a copy belongs to the stripe of its data
 abbrev pub stripe_of : Layout → ℕ → Name → ℕ

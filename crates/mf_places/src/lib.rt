@@ -1,10 +1,13 @@
 //! The names of a file's chunks, their order, and the servers where they lie.
 #![tactic(auto)]
 
-ghost use Rattle.std.specs.Prelude.{◌≡◌, ℕ, ◌+◌, ◌*◌, ◌^◌, ◌<◌, ◌≤◌, ◌↔◌, length, filter, IsTrue, IsBitSet, IfOk, IfNone, IfSome, OnSome, Some};
+ghost use Rattle.std.specs.Prelude.{◌≡◌, ℕ, ◌+◌, ◌*◌, ◌^◌, ◌<◌, ◌≤◌, ◌↔◌, length, filter, IsTrue};
+ghost use Rattle.std.specs.Prelude.{IsBitSet, IfOk, IfNone, IfSome, OnSome, Some};
 ghost use Rattle.std.specs.Int.{div_ceil};
 ghost use Rattle.mf_shape.specs.Stages.{stage_at, width_at, max_width, tolerance_at};
-ghost use Rattle.mf_places.specs.Layout.{HasPoints, HasName, IsLayout, IsApart, chunks_of, stripes_of, parities_of, count_of, name_at, holds, stripe_of, column_of, server_of};
+ghost use Rattle.mf_places.specs.Layout.{HasPoints, HasName, IsLayout, IsApart, chunks_of};
+ghost use Rattle.mf_places.specs.Layout.{stripes_of, parities_of, count_of, name_at, holds};
+ghost use Rattle.mf_places.specs.Layout.{stripe_of, column_of, server_of};
 ghost use Rattle.mf_places.specs.Rows.{first_in, number_of, IsNumber};
 
 mod lists;
@@ -189,7 +192,8 @@ impl Book {
         ensures none { IfNone result (HasName self.now name → ⊥) }
         ensures some { IfSome result (λ n. (n < count_of self.now) × (name_at self.now n ≡ name)) }
         ensures had { OnSome result (HasName self.now name) }
-        ensures only { (n : ℕ) → n < count_of self.now → name_at self.now n ≡ name → result ≡ Some n }
+        ensures only { (n : ℕ) → n < count_of self.now → name_at self.now n ≡ name
+            → result ≡ Some n }
     {
         self.find(name)
     }

@@ -17,7 +17,8 @@ impl Book {
     /// The names that generation g holds, in their order. The only error is want of memory.
     pub fn names(&self, g: u32) -> Result<Vec<Name>, Memory>
         requires { g < length self.now.stages }
-        ensures sublist { IfOk result (λ found. found.items ≡ filter (holds self.now g) (names self.now)) }
+        ensures sublist { IfOk result (λ found.
+            found.items ≡ filter (holds self.now g) (names self.now)) }
         ensures had { IfOk result (λ found. All (HasName self.now) found.items) }
     {
         let mut found = Vec::new(self.allocator());

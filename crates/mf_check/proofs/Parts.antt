@@ -2,16 +2,12 @@
 use Rattle.std.proofs.Common.{◌≡◌, ◌≢◌, ℕ, suc, ◌+◌, ◌-◌, ◌*◌, ◌<◌, ◌≤◌, inl, inr, cond, eqb, List, [], ◌∷◌, ◌++◌, length, map, take, drop, get_or, refl, sym, ap, ap₂, subst, ◌∙◌, arith, append_assoc, append-nil}
 use Rattle.std.proofs.lemmas.Bool.{cases_lt}
 use Rattle.std.proofs.lemmas.Bool.Decides.{eqb_tells}
-use Rattle.std.proofs.lemmas.List.{get_or_past, take_at, drop_at, get_or_append_left, get_or-append-add, drop_more, drop_all, get_or-map}
-use Rattle.mf_rules.specs.Field.{times}
+use Rattle.std.proofs.lemmas.List.{take_at, drop_at, get_or_append_left, get_or-append-add, drop_more, drop_all, get_or-map}
 use Rattle.mf_rules.specs.Decodable.{IsPlaceSet}
-use Rattle.mf_rules.proofs.Sums.{sum_below-same}
-use Rattle.mf_erasure.specs.Erasure.{entry, OnlyZero, others_from, places_of, Splits}
+use Rattle.mf_erasure.specs.Erasure.{entry, others_from, places_of, Splits}
 use Rattle.mf_erasure.proofs.Places.{erasure_of_set, length-places_of}
-use Rattle.mf_matrix.specs.Tables.{IsTable, IsInverse, IsKernel, IsFirstDependent, DependsOnEarlier}
 use Rattle.mf_matrix.specs.Matrix.{Grid}
 use Rattle.mf_matrix.specs.Matrix.{entry as cell}
-use Rattle.mf_matrix.proofs.Inverses.{zero_from_inverse}
 use Rattle.mf_check.specs.Sets.{IsDataFront}
 
 -- the parities of the places from `next` on
@@ -96,48 +92,6 @@ Splits-of_front width count places e set front =
     ∙ raised_and_lowered width gone in
     subst (λ (l : List ℕ). Splits width count places l (others_from 0 count (gone_from width e places))) (sym front_of)
     (subst (λ (l : List ℕ). Splits width count places lost (others_from 0 count l)) (sym back) splits)
-
--- a table with an inverse sends only zeros to zero, and so does one with the same entries
-pub OnlyZero-from_inverse : (n : ℕ) (m a b : ℕ → ℕ → ℕ) → ((i j : ℕ) → i < n → j < n → a i j ≡ m i j) → IsTable a → IsInverse n a b → OnlyZero n m
-OnlyZero-from_inverse n m a b same la inverse x lx rows j lj =
-    zero_from_inverse n a b x la inverse.bytes lx inverse.on_the_left
-    (λ i li. sum_below-same n (λ k. times (a i k) (x k)) (λ k. times (m i k) (x k)) (λ k lk. ap (λ v. times v (x k)) (same i k li lk)) ∙ rows i li)
-    j lj
-
--- a kernel list shows that a table sends more than zeros to zero
-pub not_OnlyZero-from_kernel : (n : ℕ) (m : ℕ → ℕ → ℕ) (x : List ℕ) → IsKernel n m x → OnlyZero n m → ⊥
-not_OnlyZero-from_kernel n m x k only =
-    let one = k.begins_with_one in
-    let len = k.len in
-    elim (cases_lt one.0 n) [
-      | inl lt ↦ (let z : get_or x one.0 0 ≡ 0 = only (λ j. get_or x j 0) k.bytes k.to_zero one.0 lt in let o : get_or x one.0 0 ≡ 1 = one.1 in absurd (omega arith))
-      | inr past ↦ (let z : get_or x one.0 0 ≡ 0 = get_or_past x one.0 0 (let h : length x ≤ one.0 = omega arith in h) in let o : get_or x one.0 0 ≡ 1 = one.1 in absurd (omega arith))
-    ]
-
--- tables with the same entries have the same kernel list
-pub IsKernel-same : (n : ℕ) (a m : ℕ → ℕ → ℕ) (x : List ℕ) → ((i j : ℕ) → i < n → j < n → a i j ≡ m i j) → IsKernel n a x → IsKernel n m x
-IsKernel-same n a m x same k = record {
-  len = k.len;
-  bytes = k.bytes;
-  to_zero = λ i li. sum_below-same n (λ j. times (m i j) (get_or x j 0)) (λ j. times (a i j) (get_or x j 0)) (λ j lj. ap (λ v. times v (get_or x j 0)) (sym (same i j li lj))) ∙ k.to_zero i li;
-  zero_after = (k.zero_after.0, first_same k.zero_after.1, k.zero_after.2);
-  begins_with_one = k.begins_with_one;
-}
-  where
-    depends_same : (p q : ℕ → ℕ → ℕ) → ((i j : ℕ) → i < n → j < n → p i j ≡ q i j) → (c : ℕ) → c < n → DependsOnEarlier n p c → DependsOnEarlier n q c
-    depends_same p q eq c lc (w, lw, dep) = (
-      w,
-      lw,
-      λ i li. sym (eq i c li lc) ∙ dep i li
-          ∙ sum_below-same c (λ j. times (p i j) (w j)) (λ j. times (q i j) (w j)) (λ j lj. ap (λ v. times v (w j)) (eq i j li (omega arith))),
-    )
-
-    first_same : {c : ℕ} → IsFirstDependent n a c → IsFirstDependent n m c
-    first_same {c} f = record {
-      within = f.within;
-      depends = depends_same a m same c f.within f.depends;
-      first = λ d ld dep. f.first d ld (depends_same m a (λ i j li lj. sym (same i j li lj)) d (let h = f.within in let g : d < n = omega arith in g) dep);
-    }
 
 -- one parity more that is gone, or kept
 pub gone_step : (width p count next : ℕ) (places kept whole : List ℕ) → p < count → next < length places → get_or places next 0 ≡ width + p

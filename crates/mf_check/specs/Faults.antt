@@ -19,24 +19,27 @@ pub record IsFirstPair (points : List ℕ) (i j : ℕ) : Type 0 where
   pub ordered : i < j
   pub within : j < length points
   pub equal : slice_index points i ≡ slice_index points j
-  pub none_before : (a b : ℕ) → a < b → b < length points → (a < i) ⊎ ((a ≡ i) × (b < j)) → slice_index points a ≢ slice_index points b
+  pub none_before : (a b : ℕ) → a < b → b < length points → (a < i) ⊎ ((a ≡ i) × (b < j))
+      → slice_index points a ≢ slice_index points b
 
--- Stage g is the least with a set that isn't decodable, the set is its first one in order, and this is the set's kernel list.
+-- Stage g is the least with a set that isn't decodable, the set is its first one in order, and this is the set's kernel
+-- list.
 pub record IsUndecodable (stages : List Stage) (points : List ℕ) (g : ℕ) (places kernel : List ℕ) : Type 0 where
   pub stage : g < length stages
   pub before : (h : ℕ) → h < g → IsStageDecodable stages points h
   pub set : IsPlaceSet (width_at stages g + parities_at stages g) (parities_at stages g) places
   pub undecodable : IsDecodableAt (stage_points stages points g) (width_at stages g) places → ⊥
-  pub first : (s : List ℕ) → IsPlaceSet (width_at stages g + parities_at stages g) (parities_at stages g) s → IsBefore s places
-      → IsDecodableAt (stage_points stages points g) (width_at stages g) s
+  pub first : (s : List ℕ) → IsPlaceSet (width_at stages g + parities_at stages g) (parities_at stages g) s
+      → IsBefore s places → IsDecodableAt (stage_points stages points g) (width_at stages g) s
   pub kernel_list : IsKernelOfSet (stage_points stages points g) (width_at stages g) places kernel
 
--- The points, of which there are to be `count`, have this fault, and none that is tried before it. PointCount tells their
--- number, as far as 32 bits reach.
+-- The points, of which there are to be `count`, have this fault, and none that is tried before it. PointCount tells
+-- their number, as far as 32 bits reach.
 abbrev pub IsPointFault : ℕ → List ℕ → FamilyFault → Type 0
 IsPointFault count points (PointCount n) = (length points ≢ count) × (n ≡ min (length points) (2 ^ 32 - 1))
 IsPointFault count points (PointZero i) = (length points ≡ count) × IsFirstZero points i
-IsPointFault count points (PointTwice i j) = (length points ≡ count) × ((k : ℕ) → k < count → slice_index points k ≢ 0) × IsFirstPair points i j
+IsPointFault count points (PointTwice i j) =
+    (length points ≡ count) × ((k : ℕ) → k < count → slice_index points k ≢ 0) × IsFirstPair points i j
 IsPointFault count points (Undecodable g places kernel) = ⊥
 IsPointFault count points Memory = ⊥
 
@@ -53,5 +56,6 @@ abbrev pub IsFault : List Stage → List ℕ → FamilyFault → Type 0
 IsFault stages points (PointCount n) = IsPointFault (parities_at stages 0) points (PointCount n)
 IsFault stages points (PointZero i) = IsPointFault (parities_at stages 0) points (PointZero i)
 IsFault stages points (PointTwice i j) = IsPointFault (parities_at stages 0) points (PointTwice i j)
-IsFault stages points (Undecodable g places kernel) = ArePoints (parities_at stages 0) points × IsUndecodable stages points g places kernel
+IsFault stages points (Undecodable g places kernel) =
+    ArePoints (parities_at stages 0) points × IsUndecodable stages points g places kernel
 IsFault stages points Memory = Unit {0}

@@ -9,19 +9,22 @@ use Rattle.mf_matrix.specs.Tables.{IsKernel}
 
 -- The set s comes before the set t: at the first place where they differ, s has the lesser number.
 abbrev pub IsBefore : List ℕ → List ℕ → Type 0
-IsBefore s t = (k : ℕ) × (k < length s) × ((i : ℕ) → i < k → slice_index s i ≡ slice_index t i) × (slice_index s k < slice_index t k)
+IsBefore s t = (k : ℕ) × (k < length s) × ((i : ℕ) → i < k → slice_index s i ≡ slice_index t i)
+    × (slice_index s k < slice_index t k)
 
--- The kernel list of a set of places: with the surviving parities as rows, the lost data places as columns, and as entries
--- the point of the parity to the power of the place, it is the kernel list of the matrix. So it has an entry for each lost
--- data place, and gives zero in every surviving parity.
+-- The kernel list of a set of places: with the surviving parities as rows, the lost data places as columns, and as
+-- entries the point of the parity to the power of the place, it is the kernel list of the matrix. So it has an entry
+-- for each lost data place, and gives zero in every surviving parity.
 abbrev pub IsKernelOfSet : List ℕ → ℕ → List ℕ → List ℕ → Type 0
 IsKernelOfSet points width places kernel =
-    (lost : List ℕ) × (kept : List ℕ) × Splits width (length points) places lost kept × IsKernel (length lost) (entry points lost kept) kernel
+    (lost : List ℕ) × (kept : List ℕ) × Splits width (length points) places lost kept
+    × IsKernel (length lost) (entry points lost kept) kernel
 
 -- What the matrix of a set says: the set is decodable, or it isn't, and this is its kernel list.
 abbrev pub SetAnswer : List ℕ → ℕ → List ℕ → Option (List ℕ) → Type 0
 SetAnswer points width places None = IsDecodableAt points width places
-SetAnswer points width places (Some kernel) = (IsDecodableAt points width places → ⊥) × IsKernelOfSet points width places kernel
+SetAnswer points width places (Some kernel) =
+    (IsDecodableAt points width places → ⊥) × IsKernelOfSet points width places kernel
 
 -- The numbers of p are the front of a set of places below n, and `from` is above them.
 pub record IsFront (n size from : ℕ) (p : List ℕ) : Type 0 where
@@ -37,10 +40,12 @@ pub record Continues (p : List ℕ) (from : ℕ) (s : List ℕ) : Type 0 where
 
 -- Every set that continues p from `from` on is decodable, as far as it fulfils Where.
 pub record AllDecodable (points : List ℕ) (width : ℕ) (p : List ℕ) (from : ℕ) (Where : List ℕ → Type 0) : Type 0 where
-  pub each : (s : List ℕ) → IsPlaceSet (width + length points) (length points) s → Continues p from s → Where s → IsDecodableAt points width s
+  pub each : (s : List ℕ) → IsPlaceSet (width + length points) (length points) s → Continues p from s
+      → Where s → IsDecodableAt points width s
 
 -- The set is the first one that continues p from `from` on and isn't decodable, and this is its kernel list.
-pub record IsFirstUndecodable (points : List ℕ) (width : ℕ) (p : List ℕ) (from : ℕ) (places kernel : List ℕ) : Type 0 where
+pub record IsFirstUndecodable (points : List ℕ) (width : ℕ) (p : List ℕ) (from : ℕ) (places kernel : List ℕ)
+    : Type 0 where
   pub set : IsPlaceSet (width + length points) (length points) places
   pub continues : Continues p from places
   pub undecodable : IsDecodableAt points width places → ⊥
@@ -64,5 +69,6 @@ StageAnswer points width None = IsDecodable points width
 StageAnswer points width (Some found) =
     IsPlaceSet (width + length points) (length points) found.0.items
     × (IsDecodableAt points width found.0.items → ⊥)
-    × ((s : List ℕ) → IsPlaceSet (width + length points) (length points) s → IsBefore s found.0.items → IsDecodableAt points width s)
+    × ((s : List ℕ) → IsPlaceSet (width + length points) (length points) s → IsBefore s found.0.items
+    → IsDecodableAt points width s)
     × IsKernelOfSet points width found.0.items found.1

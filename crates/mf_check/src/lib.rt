@@ -78,7 +78,8 @@ impl Model for Family {
 
     ghost view = { λ family. record { shape = family.shape; points = family.points.items } };
 
-    ghost invariant = { λ family. IsCode (record { shape = family.shape; points = family.points.items }) };
+    ghost invariant = { λ family.
+        IsCode (record { shape = family.shape; points = family.points.items }) };
 }
 
 impl Family {
@@ -142,7 +143,8 @@ fn copied(alloc: Global, shape: &Shape, points: &[u8]) -> Result<Family, AllocEr
 /// The points are looked at first: their number, then zeros, then equal pairs. Then stage after stage
 /// each set of places is tried, in their order. Memory may run out at any point.
 pub fn check(alloc: Global, shape: &Shape, points: &[u8]) -> Result<Family, FamilyFault>
-    ensures family { IfOk result (λ family. (family ≡ record { shape = shape.now; points = points.now }) × IsCode family) }
+    ensures family { IfOk result (λ family.
+        (family ≡ record { shape = shape.now; points = points.now }) × IsCode family) }
     ensures fault { IfErr result (IsFault shape.now.stages points.now) }
 {
     let count = shape.stages()[0].parities;

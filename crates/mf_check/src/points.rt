@@ -1,5 +1,6 @@
 //! The faults of points alone.
-ghost use Rattle.std.specs.Prelude.{◌≡◌, ◌≢◌, ℕ, ◌+◌, ◌<◌, ◌≤◌, ◌⊎◌, length, slice_index, MatchOption};
+ghost use Rattle.std.specs.Prelude.{◌≡◌, ◌≢◌, ℕ, ◌+◌, ◌<◌, ◌≤◌, ◌⊎◌, length};
+ghost use Rattle.std.specs.Prelude.{slice_index, MatchOption};
 ghost use Rattle.mf_check.specs.Families.{ArePoints};
 ghost use Rattle.mf_check.specs.Faults.{IsPointFault, IsFirstZero, IsFirstPair};
 
@@ -8,7 +9,9 @@ use crate::FamilyFault;
 /// The first point that is 0.
 fn first_zero(points: &[u8]) -> Option<u32>
     requires { length points.now ≤ 4 }
-    ensures { MatchOption result ((i : ℕ) → i < length points.now → slice_index points.now i ≢ 0) (IsFirstZero points.now) }
+    ensures { MatchOption result
+        ((i : ℕ) → i < length points.now → slice_index points.now i ≢ 0)
+        (IsFirstZero points.now) }
 {
     for i in 0..points.len() {
         if points[i] == 0 {
@@ -22,8 +25,10 @@ fn first_zero(points: &[u8]) -> Option<u32>
 fn next_equal(points: &[u8], i: usize) -> Option<usize>
     requires { i < length points.now }
     ensures { MatchOption result
-        ((b : ℕ) → i < b → b < length points.now → slice_index points.now i ≢ slice_index points.now b)
-        (λ j. (i < j) × (j < length points.now) × (slice_index points.now i ≡ slice_index points.now j)
+        ((b : ℕ) → i < b → b < length points.now
+        → slice_index points.now i ≢ slice_index points.now b)
+        (λ j. (i < j) × (j < length points.now)
+        × (slice_index points.now i ≡ slice_index points.now j)
         × ((b : ℕ) → i < b → b < j → slice_index points.now i ≢ slice_index points.now b)) }
 {
     for j in i + 1..points.len() {
@@ -38,7 +43,8 @@ fn next_equal(points: &[u8], i: usize) -> Option<usize>
 fn first_pair(points: &[u8]) -> Option<(u32, u32)>
     requires { length points.now ≤ 4 }
     ensures { MatchOption result
-        ((a b : ℕ) → a < b → b < length points.now → slice_index points.now a ≢ slice_index points.now b)
+        ((a b : ℕ) → a < b → b < length points.now
+        → slice_index points.now a ≢ slice_index points.now b)
         (λ pair. IsFirstPair points.now pair.0 pair.1) }
 {
     for i in 0..points.len() {

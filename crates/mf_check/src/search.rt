@@ -1,5 +1,6 @@
 //! The first set of places that isn't decodable, in the order of the sets.
-ghost use Rattle.std.specs.Prelude.{◌≡◌, ◌≢◌, ℕ, ◌+◌, ◌<◌, ◌≤◌, [], ◌∷◌, length, slice_index, vec_len, IfOk};
+ghost use Rattle.std.specs.Prelude.{◌≡◌, ◌≢◌, ℕ, ◌+◌, ◌<◌, ◌≤◌, [], ◌∷◌, length, slice_index};
+ghost use Rattle.std.specs.Prelude.{vec_len, IfOk};
 ghost use Rattle.mf_check.specs.Sets.{IsFront, SearchAnswer, StageAnswer};
 
 use crate::sets::kernel_at;

@@ -1,5 +1,6 @@
 //! One set of places, and the matrix of its erasure.
-ghost use Rattle.std.specs.Prelude.{◌≡◌, ◌≢◌, ℕ, ◌+◌, ◌-◌, ◌*◌, ◌^◌, ◌<◌, ◌≤◌, ◌++◌, length, map, drop, slice_index, OnOk, IfOk};
+ghost use Rattle.std.specs.Prelude.{◌≡◌, ◌≢◌, ℕ, ◌+◌, ◌-◌, ◌*◌, ◌^◌, ◌<◌, ◌≤◌, ◌++◌};
+ghost use Rattle.std.specs.Prelude.{length, map, drop, slice_index, OnOk, IfOk};
 ghost use Rattle.std.specs.Bool.{OnTrue, OnFalse};
 ghost use Rattle.mf_rules.specs.Field.{power};
 ghost use Rattle.mf_rules.specs.Rows.{list_of};
@@ -27,8 +28,10 @@ fn data_count(places: &[u32], width: u32) -> usize
 
 /// Whether this place stands at this number of the list.
 fn stands_at(places: &[u32], number: usize, place: u32) -> bool
-    ensures yes { OnTrue result ((number < length places.now) × (slice_index places.now number ≡ place)) }
-    ensures no { OnFalse result (number < length places.now → slice_index places.now number ≢ place) }
+    ensures yes { OnTrue result
+        ((number < length places.now) × (slice_index places.now number ≡ place)) }
+    ensures no { OnFalse result
+        (number < length places.now → slice_index places.now number ≢ place) }
 {
     number < places.len() && places[number] == place
 }
@@ -44,8 +47,10 @@ fn kept_parities(
 ) -> Result<Vec<u32>, AllocError>
     requires first_in { first ≤ length places.now }
     requires small { width + count < 2 ^ 32 }
-    requires parities { (i : ℕ) → first ≤ i → i < length places.now → width ≤ slice_index places.now i }
-    ensures { IfOk result (λ kept. kept.items ≡ others_from 0 count (map (λ place. place - width) (drop first places.now))) }
+    requires parities { (i : ℕ) → first ≤ i → i < length places.now
+        → width ≤ slice_index places.now i }
+    ensures { IfOk result (λ kept. kept.items
+        ≡ others_from 0 count (map (λ place. place - width) (drop first places.now))) }
 {
     let mut kept = Vec::with_capacity(alloc, 4)?;
     let mut next = first;
@@ -61,7 +66,8 @@ fn kept_parities(
 
 /// Appends the row of a point: its powers by the lost places.
 fn push_row(cells: &mut Vec<u8>, point: u8, lost: &[u32]) -> Result<(), AllocError>
-    ensures { OnOk result (cells.new.items ≡ cells.old.items ++ list_of (length lost.now) (λ j. power point (slice_index lost.now j))) }
+    ensures { OnOk result (cells.new.items ≡ cells.old.items
+        ++ list_of (length lost.now) (λ j. power point (slice_index lost.now j))) }
 {
     for place in lost {
         cells.push(pow(point, *place))?;
@@ -75,7 +81,8 @@ fn cells_of(alloc: Global, points: &[u8], lost: &[u32], kept: &[u32]) -> Result<
     requires { (i : ℕ) → i < length kept.now → slice_index kept.now i < length points.now }
     ensures len { IfOk result (λ cells. length cells.items ≡ length kept.now * length lost.now) }
     ensures cells { IfOk result (λ cells. (i j : ℕ) → i < length kept.now → j < length lost.now
-        → slice_index cells.items (i * length lost.now + j) ≡ entry points.now lost.now kept.now i j) }
+        → slice_index cells.items (i * length lost.now + j)
+        ≡ entry points.now lost.now kept.now i j) }
 {
     let mut cells = Vec::with_capacity(alloc, 16)?;
     for i in 0..kept.len() {

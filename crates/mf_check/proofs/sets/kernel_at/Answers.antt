@@ -7,9 +7,10 @@ use Rattle.mf_matrix.specs.Matrix.{Grid, IsGrid}
 use Rattle.mf_matrix.specs.Matrix.{entry as cell}
 use Rattle.mf_matrix.specs.declared.NoInverse.{NoInverse}
 use Rattle.mf_matrix.specs.NoInverses.{IsNoInverse}
+use Rattle.mf_matrix.proofs.Same.{only_zero-from_inverse, no_kernel, is_kernel-same}
 use Rattle.mf_rules.specs.Decodable.{IsPlaceSet}
 use Rattle.mf_check.specs.Sets.{IsDataFront, IsKernelOfSet}
-use Rattle.mf_check.proofs.Parts.{gone_from, Splits-of_front, OnlyZero-from_inverse, not_OnlyZero-from_kernel, IsKernel-same, same_entries}
+use Rattle.mf_check.proofs.Parts.{gone_from, Splits-of_front, same_entries}
 use Rattle.mf_check.proofs.sets.kernel_at.Goals as goal
 
 module _ (points places : List ℕ) (width e : ℕ) (set : IsPlaceSet (width + length points) (length points) places) (front : IsDataFront width places e) where
@@ -47,14 +48,14 @@ module _ (points places : List ℕ) (width e : ℕ) (set : IsPlaceSet (width + l
     decodable : (b : Grid) → IsInverse g.columns (cell g) (cell b) → IsDecodableAt points width places
     decodable b inverse =
         decodable_from_only_zero width points places lost kept splits
-        (OnlyZero-from_inverse (length lost) (entry points lost kept) (cell g) (cell b) entries bytes
+        (only_zero-from_inverse (length lost) (cell g) (entry points lost kept) (cell b) entries bytes
         (subst (λ n. IsInverse n (cell g) (cell b)) columns_is inverse))
 
     undecodable : (x : List ℕ) → IsKernel g.columns (cell g) x → (IsDecodableAt points width places → ⊥) × IsKernelOfSet points width places x
     undecodable x kernel =
         let k : IsKernel (length lost) (entry points lost kept) x =
-        IsKernel-same (length lost) (cell g) (entry points lost kept) x entries (subst (λ n. IsKernel n (cell g) x) columns_is kernel) in (
-          λ d. not_OnlyZero-from_kernel (length lost) (entry points lost kept) x k (only_zero_from_decodable width points places lost kept splits d),
+        is_kernel-same (length lost) (cell g) (entry points lost kept) x entries (subst (λ n. IsKernel n (cell g) x) columns_is kernel) in (
+          λ d. no_kernel (length lost) (entry points lost kept) x (only_zero_from_decodable width points places lost kept splits d) k,
           (lost, kept, splits, k),
         )
 

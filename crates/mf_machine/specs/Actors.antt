@@ -54,7 +54,8 @@ NextHolds f b last n = (g : ℕ) × IsNext f b last g × Holds f g n
 
 -- the actor has the right, and the generation of its Work pin or the next one holds the name
 abbrev pub WorkHolds : File → Build → ℕ → ℕ → ℕ → Type 0
-WorkHolds f b last work n = (b.right ≡ 1) × (((g : ℕ) × (g < f.stages) × (work ≡ g + 1) × Holds f g n) ⊎ NextHolds f b last n)
+WorkHolds f b last work n = (b.right ≡ 1)
+    × (((g : ℕ) × (g < f.stages) × (work ≡ g + 1) × Holds f g n) ⊎ NextHolds f b last n)
 
 -- a close of g was answered Done or Already
 abbrev pub Shown : ℕ → Met → Type 0

@@ -8,7 +8,8 @@ pub record Line : Type 0 where
   pub line : ℕ
   pub server : ℕ
 
--- a file: its stages, the number of its names, which generation holds which name, each name's server and its cell, and the lose lines up to the end of the phase
+-- a file: its stages, the number of its names, which generation holds which name, each name's server and its cell, and
+-- the lose lines up to the end of the phase
 pub record File : Type 0 where
   pub stages : ℕ
   pub names : ℕ
@@ -51,7 +52,8 @@ pub record Opening : Type 0 where
   pub name : ℕ → ℕ
   pub home : ℕ → Home
 
--- a file between two steps: the published number, the right, the word of each generation's pins and of each name, the slots, and the actors
+-- a file between two steps: the published number, the right, the word of each generation's pins and of each name, the
+-- slots, and the actors
 pub record State : Type 0 where
   pub number : ℕ
   pub right : ℕ

@@ -25,10 +25,12 @@ Law = (f : File) (k : Opening) (w : World) → Reached f k w → Kept f k (read 
 
 -- a name of a pinned generation is Here with its cell, Taken or Lost, and never Unborn or Dropped
 abbrev pub Stays : File → State → ℕ → Type 0
-Stays f s n = ((s.name n ≡ 1) ⊎ ((s.name n ≡ 2) ⊎ (4 ≤ s.name n))) × (s.name n ≢ 0) × (s.name n ≢ 3) × (s.name n ≡ 1 → HasCell f n (s.home n))
+Stays f s n = ((s.name n ≡ 1) ⊎ ((s.name n ≡ 2) ⊎ (4 ≤ s.name n)))
+    × (s.name n ≢ 0) × (s.name n ≢ 3) × (s.name n ≡ 1 → HasCell f n (s.home n))
 
 abbrev pub PinnedStays : Type 0
-PinnedStays = (f : File) (k : Opening) (w : World) → Reached f k w → (j : ℕ) (v : View) → IsActor (read f w) j v → (g : ℕ) → 0 < live g v → (n : ℕ) → n < f.names → Holds f g n → Stays f (read f w) n
+PinnedStays = (f : File) (k : Opening) (w : World) → Reached f k w → (j : ℕ) (v : View) → IsActor (read f w) j v
+    → (g : ℕ) → 0 < live g v → (n : ℕ) → n < f.names → Holds f g n → Stays f (read f w) n
 
 -- the last actor: it has the whole share again, and no pin, no right and no name Taken
 abbrev pub IsLast : State → ℕ → View → Type 0
@@ -38,10 +40,13 @@ IsLast s j v = IsActor s j v × (v.share ≡ 2 ^ 30) × (v.hold ≡ 0) × (v.wor
 abbrev pub resting : State → Opening
 resting s = record { number = s.number; closed = λ g. leb 9223372036854775808 (s.pins g); name = s.name; home = s.home }
 
--- *Rest* is what the rules say of a state with no pin, no right and no name Taken: with its first actor a resting file keeps the rules, and a state that keeps them, with no name Taken and nothing in the slots of names that aren't Here, rests
+-- *Rest* is what the rules say of a state with no pin, no right and no name Taken: with its first actor a resting file
+-- keeps the rules, and a state that keeps them, with no name Taken and nothing in the slots of names that aren't Here,
+-- rests
 pub record RestIsKept : Type 0 where
   pub begins : (f : File) (k : Opening) (w : World) → Rest f k → Opens f k w → Kept f k (read f w)
-  pub ends : (f : File) (k : Opening) (s : State) → Kept f k s → ((n : ℕ) → n < f.names → s.name n ≢ 2) → ((n : ℕ) → n < f.names → s.name n ≢ 1 → s.home n ≡ empty) → Rest f (resting s)
+  pub ends : (f : File) (k : Opening) (s : State) → Kept f k s → ((n : ℕ) → n < f.names → s.name n ≢ 2)
+      → ((n : ℕ) → n < f.names → s.name n ≢ 1 → s.home n ≡ empty) → Rest f (resting s)
 
 -- what the first actor has seen and made, the second one has too
 pub record GoesOn (v u : View) : Type 0 where
@@ -56,10 +61,13 @@ pub record GoesOn (v u : View) : Type 0 where
   pub restored : (n : ℕ) → times n v.made.changes.restored ≤ times n u.made.changes.restored
   pub dropped : (n : ℕ) → times n v.made.changes.dropped ≤ times n u.made.changes.dropped
 
--- what an actor has seen and made only grows: after a move it has it still; or the move is a join that took it in, and the staying actor has it
+-- what an actor has seen and made only grows: after a move it has it still; or the move is a join that took it in, and
+-- the staying actor has it
 abbrev pub OnlyGrows : Type 0
-OnlyGrows = (f : File) (k : Opening) (w : World) (m : Move) → Reached f k w → May f w m → (j : ℕ) (v : View) → IsActor (read f w) j v
-    → ((u : View) × IsActor (read f (after f w m)) j u × GoesOn v u) ⊎ ((i : ℕ) × (m ≡ move.join i j) × ((u : View) × IsActor (read f (after f w m)) i u × GoesOn v u))
+OnlyGrows = (f : File) (k : Opening) (w : World) (m : Move) → Reached f k w → May f w m
+    → (j : ℕ) (v : View) → IsActor (read f w) j v
+    → ((u : View) × IsActor (read f (after f w m)) j u × GoesOn v u)
+    ⊎ ((i : ℕ) × (m ≡ move.join i j) × ((u : View) × IsActor (read f (after f w m)) i u × GoesOn v u))
 
 -- the actor of a move; of a join it is the one that stays
 abbrev pub mover : Move → ℕ
@@ -94,7 +102,9 @@ Meets w i a b = (b.count ≡ a.count + 1) × (b.word ≡ i) × (b.met ≡ word_o
 abbrev pub CountsOne : Step → Step → Type 0
 CountsOne a b = (b.count ≡ a.count + 1) × (b.word ≡ a.word) × (b.met ≡ a.met)
 
--- what the actor of a move notes by it, before and after: each of the fourteen kinds of step counts once, and notes its word with the value met; so does the second try of a drop. The return of a birth, lose, retake or drop was counted with its turn, and so it notes nothing, and neither do an exchange, a split and a join
+-- what the actor of a move notes by it, before and after: each of the fourteen kinds of step counts once, and notes its
+-- word with the value met; so does the second try of a drop. The return of a birth, lose, retake or drop was counted
+-- with its turn, and so it notes nothing, and neither do an exchange, a split and a join
 abbrev pub Notes : File → World → Move → Step → Step → Type 0
 Notes f w (move.look id) a b = Meets w 0 a b
 Notes f w (move.pin id slot g) a b = Meets w (g + 2) a b
@@ -119,10 +129,14 @@ Notes f w (move.exchange id h) a b = b ≡ a
 Notes f w (move.split id) a b = b ≡ a
 Notes f w (move.join id other) a b = b ≡ a
 
--- what an actor notes of its last step is what that step met: a move notes with its own actor just this, and with every other actor nothing
+-- what an actor notes of its last step is what that step met: a move notes with its own actor just this, and with every
+-- other actor nothing
 pub record NotesTrue : Type 0 where
-  pub own : (f : File) (w : World) (m : Move) → May f w m → (v u : View) → IsActor (read f w) (mover m) v → IsActor (read f (after f w m)) (mover m) u → Notes f w m v.step u.step
-  pub others : (f : File) (w : World) (m : Move) → May f w m → (j : ℕ) → j ≢ mover m → (v u : View) → IsActor (read f w) j v → IsActor (read f (after f w m)) j u → 0 < u.share → u.step ≡ v.step
+  pub own : (f : File) (w : World) (m : Move) → May f w m
+      → (v u : View) → IsActor (read f w) (mover m) v → IsActor (read f (after f w m)) (mover m) u
+      → Notes f w m v.step u.step
+  pub others : (f : File) (w : World) (m : Move) → May f w m → (j : ℕ) → j ≢ mover m
+      → (v u : View) → IsActor (read f w) j v → IsActor (read f (after f w m)) j u → 0 < u.share → u.step ≡ v.step
 
 -- h of each Met of an actor, added up
 abbrev pub met_sum : (Met → ℕ) → List Met → ℕ
@@ -132,14 +146,17 @@ met_sum h (m ∷ ms) = h m + met_sum h ms
 abbrev pub mets_of : (Met → ℕ) → View → ℕ
 mets_of h v = h v.own + met_sum h v.gone
 
--- Seen has what the answers of a Met show: its number isn't below one looked at; and it has each generation answered Closed (by a close or by a pin answered false), each name put, restored or answered Here or Lost, and each name dropped
+-- Seen has what the answers of a Met show: its number isn't below one looked at; and it has each generation answered
+-- Closed (by a close or by a pin answered false), each name put, restored or answered Here or Lost, and each name
+-- dropped
 pub record SeenHas (s : Seen) (m : Met) : Type 0 where
   pub number : (n : ℕ) → 0 < times n m.numbers → n ≤ s.number
   pub shut : (g : ℕ) → 0 < times g m.closed + times g m.already + times g m.missed → 0 < times g s.shut
   pub born : (n : ℕ) → 0 < times n m.put + times n m.restored + times n m.here + losses n m.lost → 0 < times n s.born
   pub dropped : (n : ℕ) → 0 < times n m.dropped → 0 < times n s.dropped
 
--- an actor's Made is what its own answers say, and those of the actors that it took in: each closing and change stands in it exactly as often as in these Mets. A number published was also looked at
+-- an actor's Made is what its own answers say, and those of the actors that it took in: each closing and change stands
+-- in it exactly as often as in these Mets. A number published was also looked at
 pub record MadeIs (v : View) : Type 0 where
   pub published : (n : ℕ) → times n v.made.numbers ≤ mets_of (λ m. times n m.numbers) v
   pub closed : (g : ℕ) → times g v.made.closings ≡ mets_of (λ m. times g m.closed) v
@@ -172,14 +189,17 @@ pub record BringsBack (f : File) (k : Opening) (s : State) (v : View) : Type 0 w
   pub closed : (g : ℕ) → g < f.stages → IsClosed s g ↔ ((k.closed g ≡ true) ⊎ (0 < times g v.made.closings))
   pub unborn : (n : ℕ) → n < f.names → (s.name n ≡ 0) ↔ ((k.name n ≡ 0) × (times n v.made.changes.put ≡ 0))
   pub dropped : (n : ℕ) → n < f.names → (s.name n ≡ 3) ↔ ((k.name n ≡ 3) ⊎ (0 < times n v.made.changes.dropped))
-  pub lost : (n : ℕ) → n < f.names → s.name n ≢ 3 → (4 ≤ s.name n) ↔ (losses n v.made.changes.lost + lost_bit (k.name n) ≡ times n v.made.changes.restored + 1)
+  pub lost : (n : ℕ) → n < f.names → s.name n ≢ 3
+      → (4 ≤ s.name n) ↔ (losses n v.made.changes.lost + lost_bit (k.name n) ≡ times n v.made.changes.restored + 1)
   pub line : (n l : ℕ) → n < f.names → s.name n ≡ 4 + l → (k.name n ≡ 4 + l) ⊎ (0 < lines n l v.made.changes.lost)
   pub here : (n : ℕ) → n < f.names → (s.name n ≡ 0) ⊎ ((s.name n ≡ 1) ⊎ ((s.name n ≡ 3) ⊎ (4 ≤ s.name n)))
 
--- the end: the last actor's Made accounts for the state, its Mets have their causes in it, it is at least what the actor has seen, and the state is at rest
+-- the end: the last actor's Made accounts for the state, its Mets have their causes in it, it is at least what the
+-- actor has seen, and the state is at rest
 abbrev pub LastBringsBack : Type 0
 LastBringsBack = (f : File) (k : Opening) (w : World) → Reached f k w → (j : ℕ) (v : View) → IsLast (read f w) j v
-    → BringsBack f k (read f w) v × Caused k (alone (read f w) v) × Kept f k (alone (read f w) v) × Rest f (resting (read f w))
+    → BringsBack f k (read f w) v × Caused k (alone (read f w) v) × Kept f k (alone (read f w) v)
+    × Rest f (resting (read f w))
 
 -- another actor has done this, or one that this actor took in
 abbrev pub Another : State → ℕ → (View → ℕ) → ℕ → Type 0
@@ -196,21 +216,34 @@ pub record LeadsBack (f : File) (k : Opening) (s : State) (j : ℕ) (v : View) :
   -- a close of g that met more pins than its actor had: another actor's pin on an open g
   pub pinned : (g : ℕ) → 0 < foreign g v.own.pinned → Another s j (opened_of g) (all_opened g v.gone)
   -- Already, or a pin answered false: the opening, or a close answered Done
-  pub already : (g : ℕ) (m : Met) → IsMetOf v m → 0 < times g m.already + times g m.missed → (k.closed g ≡ true) ⊎ Someone s (closings g)
+  pub already : (g : ℕ) (m : Met) → IsMetOf v m → 0 < times g m.already + times g m.missed
+      → (k.closed g ≡ true) ⊎ Someone s (closings g)
   -- Lost(line): the opening, or a loss with that line
   pub lost : (n l : ℕ) (m : Met) → IsMetOf v m → 0 < lines n l m.lost → (k.name n ≡ 4 + l) ⊎ Someone s (loses_by n l)
   -- Absent: the opening
   pub absent : (m : Met) → IsMetOf v m → 0 < times 0 m.numbers → k.number ≡ 0
   -- Removed: the opening, or a publishing of q + 1
-  pub removed : (m : Met) → IsMetOf v m → 0 < times (f.stages + 1) m.numbers → (k.number ≡ f.stages + 1) ⊎ Someone s (publishings (f.stages + 1))
+  pub removed : (m : Met) → IsMetOf v m → 0 < times (f.stages + 1) m.numbers
+      → (k.number ≡ f.stages + 1) ⊎ Someone s (publishings (f.stages + 1))
 
 abbrev pub CausesLeadBack : Type 0
-CausesLeadBack = (f : File) (k : Opening) (w : World) → Reached f k w → (j : ℕ) (v : View) → IsActor (read f w) j v → LeadsBack f k (read f w) j v
+CausesLeadBack = (f : File) (k : Opening) (w : World) → Reached f k w → (j : ℕ) (v : View) → IsActor (read f w) j v
+    → LeadsBack f k (read f w) j v
 
--- the account of all actors: a step adds to it what it adds to its own actor; a split adds an empty Met and nothing else; and a join leaves it as it is, up to the order of the Mets. Here d is how often something stands in a Made, and h how often something stands in a Met
+-- the account of all actors: a step adds to it what it adds to its own actor; a split adds an empty Met and nothing
+-- else; and a join leaves it as it is, up to the order of the Mets. Here d is how often something stands in a Made, and
+-- h how often something stands in a Met
 pub record AddsUp : Type 0 where
-  pub step : (deed : View → ℕ) (vs : List View) (i : ℕ) (v w : View) → get_elem? vs i ≡ some v → total deed (slice_set vs i w) + deed v ≡ total deed vs + deed w
-  pub split_made : (d : Made → ℕ) (vs : List View) (i : ℕ) (v : View) → get_elem? vs i ≡ some v → d nothing_made ≡ 0 → total (λ u. d u.made) (slice_set vs i (old_half v) ++ new_half v ∷ []) ≡ total (λ u. d u.made) vs
-  pub split_met : (h : Met → ℕ) (vs : List View) (i : ℕ) (v : View) → get_elem? vs i ≡ some v → total (mets_of h) (slice_set vs i (old_half v) ++ new_half v ∷ []) ≡ total (mets_of h) vs + h nothing_met
-  pub join_made : (d : Made → ℕ) (vs : List View) (i j : ℕ) (v u : View) → j ≢ i → get_elem? vs i ≡ some v → get_elem? vs j ≡ some u → d nothing_made ≡ 0 → d (joined v u).made ≡ d v.made + d u.made → total (λ x. d x.made) (slice_set (slice_set vs i (joined v u)) j spent_view) ≡ total (λ x. d x.made) vs
-  pub join_met : (h : Met → ℕ) (vs : List View) (i j : ℕ) (v u : View) → j ≢ i → get_elem? vs i ≡ some v → get_elem? vs j ≡ some u → h nothing_met ≡ 0 → total (mets_of h) (slice_set (slice_set vs i (joined v u)) j spent_view) ≡ total (mets_of h) vs
+  pub step : (deed : View → ℕ) (vs : List View) (i : ℕ) (v w : View) → get_elem? vs i ≡ some v
+      → total deed (slice_set vs i w) + deed v ≡ total deed vs + deed w
+  pub split_made : (d : Made → ℕ) (vs : List View) (i : ℕ) (v : View) → get_elem? vs i ≡ some v → d nothing_made ≡ 0
+      → total (λ u. d u.made) (slice_set vs i (old_half v) ++ new_half v ∷ []) ≡ total (λ u. d u.made) vs
+  pub split_met : (h : Met → ℕ) (vs : List View) (i : ℕ) (v : View) → get_elem? vs i ≡ some v
+      → total (mets_of h) (slice_set vs i (old_half v) ++ new_half v ∷ []) ≡ total (mets_of h) vs + h nothing_met
+  pub join_made : (d : Made → ℕ) (vs : List View) (i j : ℕ) (v u : View) → j ≢ i
+      → get_elem? vs i ≡ some v → get_elem? vs j ≡ some u
+      → d nothing_made ≡ 0 → d (joined v u).made ≡ d v.made + d u.made
+      → total (λ x. d x.made) (slice_set (slice_set vs i (joined v u)) j spent_view) ≡ total (λ x. d x.made) vs
+  pub join_met : (h : Met → ℕ) (vs : List View) (i j : ℕ) (v u : View) → j ≢ i
+      → get_elem? vs i ≡ some v → get_elem? vs j ≡ some u → h nothing_met ≡ 0
+      → total (mets_of h) (slice_set (slice_set vs i (joined v u)) j spent_view) ≡ total (mets_of h) vs

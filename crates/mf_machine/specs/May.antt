@@ -11,7 +11,8 @@ MayLook v = Active v × Idle v
 
 -- the slot is free, the number last looked at is g + 1, and g wasn't answered Closed
 abbrev pub MayPin : File → Slot → ℕ → View → Type 0
-MayPin f slot g v = Active v × Idle v × (g < f.stages) × (slot_of slot v ≡ 0) × (v.last ≡ g + 2) × (times g v.seen.shut ≡ 0)
+MayPin f slot g v = Active v × Idle v × (g < f.stages) × (slot_of slot v ≡ 0) × (v.last ≡ g + 2)
+    × (times g v.seen.shut ≡ 0)
 
 -- the slot is pinned, and no name is Taken
 abbrev pub MayUnpin : File → Slot → ℕ → View → Type 0
@@ -27,10 +28,12 @@ MayBegin v = Active v × Idle v × (v.build.right ≡ 0)
 abbrev pub MayEnd : View → Type 0
 MayEnd v = Active v × Idle v × (v.build.right ≡ 1)
 
--- m was looked at since the begin; next is m + 1, and each name of generation m was put, restored or answered Here or Lost since; or next says that the file is removed
+-- m was looked at since the begin; next is m + 1, and each name of generation m was put, restored or answered Here or
+-- Lost since; or next says that the file is removed
 abbrev pub MayPublish : File → ℕ → View → Type 0
 MayPublish f next v = Active v × Idle v × (v.build.right ≡ 1) × (v.build.looked ≡ 1) × ((m : ℕ) × (v.last ≡ m + 1)
-    × (((next ≡ m + 1) × (next ≤ f.stages) × ((n : ℕ) → n < f.names → Holds f m n → 0 < times n v.build.settled)) ⊎ ((next ≡ f.stages + 1) × (1 ≤ m) × (m ≤ f.stages))))
+    × (((next ≡ m + 1) × (next ≤ f.stages) × ((n : ℕ) → n < f.names → Holds f m n → 0 < times n v.build.settled))
+    ⊎ ((next ≡ f.stages + 1) × (1 ≤ m) × (m ≤ f.stages))))
 
 -- a pinned generation holds the name, or the next one does and the actor has the right
 abbrev pub MaySee : File → ℕ → View → Type 0
@@ -77,7 +80,8 @@ MayBeDropped n v = Active v × (v.inside.dropping ≡ n + 1)
 
 -- the actor has the turn of a slot
 abbrev pub MayExchange : View → Type 0
-MayExchange v = Active v × (0 < v.inside.getting + v.inside.bearing + v.inside.retaking + v.inside.losing + v.inside.dropping)
+MayExchange v = Active v
+    × (0 < v.inside.getting + v.inside.bearing + v.inside.retaking + v.inside.losing + v.inside.dropping)
 
 abbrev pub MaySplit : View → Type 0
 MaySplit v = 2 ≤ v.share

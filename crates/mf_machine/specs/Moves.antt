@@ -1,17 +1,23 @@
 -- The moves of all actors, over the words and slots of a table.
-use Rattle.std.specs.Prelude.{◌≡◌, ◌≢◌, ℕ, ◌+◌, ◌-◌, ◌*◌, ◌<◌, ◌==◌, List, [], ◌∷◌, ◌++◌, length, cond, slice_index, slice_index_or, slice_set}
+use Rattle.std.specs.Prelude.{◌≡◌, ◌≢◌, ℕ, ◌+◌, ◌-◌, ◌*◌, ◌<◌, ◌==◌, List, [], ◌∷◌, ◌++◌, length, cond}
+use Rattle.std.specs.Prelude.{slice_index, slice_index_or, slice_set}
 use Rattle.mf_machine.specs.declared.view.Slot.{Slot}
 use Rattle.mf_machine.specs.declared.view.View.{View}
-use Rattle.mf_machine.specs.Answers.{pin_answer, pin_row, close_answer, close_row, begin_answer, begin_row, see_answer, see_row, take_answer, take_row, lose_answer, lose_row, drop_answer, drop_row, drop_again_answer, drop_again_row}
+use Rattle.mf_machine.specs.Answers.{pin_answer, pin_row, close_answer, close_row, begin_answer, begin_row}
+use Rattle.mf_machine.specs.Answers.{see_answer, see_row, take_answer, take_row, lose_answer, lose_row, drop_answer}
+use Rattle.mf_machine.specs.Answers.{drop_row, drop_again_answer, drop_again_row}
 use Rattle.mf_machine.specs.Counts.{truth}
 use Rattle.mf_machine.specs.File.{File, Opening, State, Home, HasCell}
 use Rattle.mf_machine.specs.File.Home.{away, empty}
-use Rattle.mf_machine.specs.May.{MayLook, MayPin, MayUnpin, MayClose, MayBegin, MayEnd, MayPublish, MaySee, MayTake, MayBirth, MayLose, MayRetake, MayDrop, MayDropAgain, MayGive, MayBeBorn, MayBeLost, MayBeRestored, MayBeDropped, MayExchange, MaySplit, MayJoin}
+use Rattle.mf_machine.specs.May.{MayLook, MayPin, MayUnpin, MayClose, MayBegin, MayEnd, MayPublish, MaySee, MayTake}
+use Rattle.mf_machine.specs.May.{MayBirth, MayLose, MayRetake, MayDrop, MayDropAgain, MayGive, MayBeBorn, MayBeLost}
+use Rattle.mf_machine.specs.May.{MayBeRestored, MayBeDropped, MayExchange, MaySplit, MayJoin}
 use Rattle.mf_machine.specs.Rest.{Rest}
 use Rattle.mf_machine.specs.Rows as row
 use Rattle.mf_machine.specs.Rows.{counted, first_view, spent_view}
 
--- the words in their order: the published number, the right, the pins of each generation, the names; the slot of each name; the actors; and what each has in its hand of the slot whose turn it holds
+-- the words in their order: the published number, the right, the pins of each generation, the names; the slot of each
+-- name; the actors; and what each has in its hand of the slot whose turn it holds
 pub record World : Type 0 where
   pub words : List ℕ
   pub homes : List Home
@@ -47,7 +53,8 @@ pub record Opens (f : File) (k : Opening) (w : World) : Type 0 where
   pub homes : (n : ℕ) → n < f.names → slice_index_or w.homes n empty ≡ k.home n
   pub views : w.views ≡ first_view f k ∷ []
 
--- a move of the actor with the first number. A birth, lose, retake or drop begins with a turn and ends with a return, and so do a take and a give
+-- a move of the actor with the first number. A birth, lose, retake or drop begins with a turn and ends with a return,
+-- and so do a take and a give
 pub data Move : Type 0 where
   look : ℕ → Move
   pin : ℕ → Slot → ℕ → Move
@@ -107,37 +114,53 @@ back f w id n x v = record {
 abbrev pub noted : World → ℕ → View → View
 noted w i v = counted i (word_of w i) v
 
--- the table after a move: each word step writes a function of the value met, and its actor's view is the row's by its answer
+-- the table after a move: each word step writes a function of the value met, and its actor's view is the row's by its
+-- answer
 abbrev pub after : File → World → Move → World
 after f w (look id) = step w 0 (word_of w 0) id (noted w 0 (row.looked (word_of w 0) (actor w id)))
-after f w (pin id slot g) = step w (g + 2) (word_of w (g + 2) + 1) id (noted w (g + 2) (pin_row (pin_answer (word_of w (g + 2))) slot g (actor w id)))
-after f w (unpin id slot g) = step w (g + 2) (word_of w (g + 2) - 1) id (noted w (g + 2) (row.unpinned slot (actor w id)))
-after f w (close id g) = step w (g + 2) (cond (word_of w (g + 2) == 0) 9223372036854775808 (word_of w (g + 2))) id (noted w (g + 2) (close_row (close_answer (word_of w (g + 2))) g (actor w id)))
-after f w (begin id) = step w 1 (cond (word_of w 1 == 0) 1 (word_of w 1)) id (noted w 1 (begin_row (begin_answer (word_of w 1)) (actor w id)))
+after f w (pin id slot g) = step w (g + 2) (word_of w (g + 2) + 1) id
+    (noted w (g + 2) (pin_row (pin_answer (word_of w (g + 2))) slot g (actor w id)))
+after f w (unpin id slot g) = step w (g + 2) (word_of w (g + 2) - 1) id
+    (noted w (g + 2) (row.unpinned slot (actor w id)))
+after f w (close id g) = step w (g + 2) (cond (word_of w (g + 2) == 0) 9223372036854775808 (word_of w (g + 2))) id
+    (noted w (g + 2) (close_row (close_answer (word_of w (g + 2))) g (actor w id)))
+after f w (begin id) = step w 1 (cond (word_of w 1 == 0) 1 (word_of w 1)) id
+    (noted w 1 (begin_row (begin_answer (word_of w 1)) (actor w id)))
 after f w (end id) = step w 1 0 id (noted w 1 (row.ended (actor w id)))
 after f w (publish id next) = step w 0 next id (noted w 0 (row.published next (actor w id)))
-after f w (see id n) = step w (name_word f n) (word_of w (name_word f n)) id (noted w (name_word f n) (see_row (see_answer (word_of w (name_word f n))) n (actor w id)))
+after f w (see id n) = step w (name_word f n) (word_of w (name_word f n)) id
+    (noted w (name_word f n) (see_row (see_answer (word_of w (name_word f n))) n (actor w id)))
 after f w (take id n) = cond (word_of w (name_word f n) == 1)
     (turn f w id n (noted w (name_word f n) (take_row (take_answer (word_of w (name_word f n))) n (actor w id))))
-    (step w (name_word f n) (word_of w (name_word f n)) id (noted w (name_word f n) (take_row (take_answer (word_of w (name_word f n))) n (actor w id))))
+    (step w (name_word f n) (word_of w (name_word f n)) id
+    (noted w (name_word f n) (take_row (take_answer (word_of w (name_word f n))) n (actor w id))))
 after f w (give id n) = back f w id n 1 (row.gave (actor w id))
 after f w (birth id n) = turn f w id n (noted w (name_word f n) (row.bearing n (actor w id)))
 after f w (born id n) = back f w id n 1 (row.born n (actor w id))
 after f w (lose id n l) = cond (word_of w (name_word f n) == 1)
     (turn f w id n (noted w (name_word f n) (lose_row (lose_answer (word_of w (name_word f n))) n l (actor w id))))
-    (step w (name_word f n) (word_of w (name_word f n)) id (noted w (name_word f n) (lose_row (lose_answer (word_of w (name_word f n))) n l (actor w id))))
+    (step w (name_word f n) (word_of w (name_word f n)) id
+    (noted w (name_word f n) (lose_row (lose_answer (word_of w (name_word f n))) n l (actor w id))))
 after f w (lost id n l) = back f w id n (4 + l) (row.lost n l (actor w id))
 after f w (retake id n) = turn f w id n (noted w (name_word f n) (row.retaking n (actor w id)))
 after f w (restored id n) = back f w id n 1 (row.restored n (actor w id))
 after f w (drop id n) = cond (word_of w (name_word f n) == 1)
-    (turn f w id n (noted w (name_word f n) (drop_row (drop_answer (word_of w (name_word f n))) n (word_of w (name_word f n)) (actor w id))))
-    (step w (name_word f n) (word_of w (name_word f n)) id (noted w (name_word f n) (drop_row (drop_answer (word_of w (name_word f n))) n (word_of w (name_word f n)) (actor w id))))
-after f w (drop_again id n) = step w (name_word f n) (cond (word_of w (name_word f n) == (actor w id).inside.tried) 3 (word_of w (name_word f n))) id
-    (noted w (name_word f n) (drop_again_row (drop_again_answer (actor w id).inside.tried (word_of w (name_word f n))) n (actor w id)))
+    (turn f w id n (noted w (name_word f n)
+    (drop_row (drop_answer (word_of w (name_word f n))) n (word_of w (name_word f n)) (actor w id))))
+    (step w (name_word f n) (word_of w (name_word f n)) id (noted w (name_word f n)
+    (drop_row (drop_answer (word_of w (name_word f n))) n (word_of w (name_word f n)) (actor w id))))
+after f w (drop_again id n) = step w (name_word f n)
+    (cond (word_of w (name_word f n) == (actor w id).inside.tried) 3 (word_of w (name_word f n))) id
+    (noted w (name_word f n)
+    (drop_again_row (drop_again_answer (actor w id).inside.tried (word_of w (name_word f n))) n (actor w id)))
 after f w (dropped id n) = back f w id n 3 (row.dropped n (actor w id))
 after f w (exchange id h) = record w { hands = put w.hands id h }
-after f w (split id) = record w { views = slice_set w.views id (row.old_half (actor w id)) ++ row.new_half (actor w id) ∷ [] }
-after f w (join id other) = record w { views = slice_set (slice_set w.views id (row.joined (actor w id) (actor w other))) other spent_view }
+after f w (split id) = record w {
+  views = slice_set w.views id (row.old_half (actor w id)) ++ row.new_half (actor w id) ∷ [];
+}
+after f w (join id other) = record w {
+  views = slice_set (slice_set w.views id (row.joined (actor w id) (actor w other))) other spent_view;
+}
 
 -- where a move may happen. A give, birth or retake brings home the name's cell, a lose or drop an empty slot
 abbrev pub May : File → World → Move → Type 0

@@ -3,7 +3,8 @@ use Rattle.std.specs.Prelude.{◌≡◌, ◌≢◌, ℕ, ◌+◌, ◌<◌, ◌�
 use Rattle.mf_machine.specs.File.{File, Opening, Holds, IsLoseLine, HasCell}
 use Rattle.mf_machine.specs.File.Home.{empty}
 
--- *Rest*: no pin, no right, no name Taken, and what the rules then say of the number, the closed generations, the names and the slots
+-- *Rest*: no pin, no right, no name Taken, and what the rules then say of the number, the closed generations, the names
+-- and the slots
 pub record Rest (f : File) (k : Opening) : Type 0 where
   pub number : k.number ≤ f.stages + 1
   pub closed : (g : ℕ) → g < f.stages → k.closed g ≡ true → g + 1 < k.number

@@ -33,7 +33,11 @@ pinned Hold g v = record v { hold = g + 1; own = record v.own { opened = g ∷ v
 pinned Work g v = record v { work = g + 1; own = record v.own { opened = g ∷ v.own.opened } }
 
 abbrev pub missed : ℕ → View → View
-missed g v = record v { strays = g ∷ v.strays; seen = record v.seen { shut = g ∷ v.seen.shut }; own = record v.own { missed = g ∷ v.own.missed } }
+missed g v = record v {
+  strays = g ∷ v.strays;
+  seen = record v.seen { shut = g ∷ v.seen.shut };
+  own = record v.own { missed = g ∷ v.own.missed };
+}
 
 -- unpin
 abbrev pub unpinned : Slot → View → View
@@ -49,14 +53,22 @@ closed_done g v = record v {
 }
 
 abbrev pub closed_pins : ℕ → ℕ → View → View
-closed_pins g n v = record v { own = record v.own { pinned = (record { generation = g; pins = n; own = live g v }) ∷ v.own.pinned } }
+closed_pins g n v = record v {
+  own = record v.own { pinned = (record { generation = g; pins = n; own = live g v }) ∷ v.own.pinned };
+}
 
 abbrev pub closed_already : ℕ → View → View
-closed_already g v = record v { seen = record v.seen { shut = g ∷ v.seen.shut }; own = record v.own { already = g ∷ v.own.already } }
+closed_already g v = record v {
+  seen = record v.seen { shut = g ∷ v.seen.shut };
+  own = record v.own { already = g ∷ v.own.already };
+}
 
 -- begin, answered true and false
 abbrev pub begun : View → View
-begun v = record v { build = record { right = 1; looked = 0; unborn = []; lost = []; settled = [] }; own = record v.own { begun = v.own.begun + 1 } }
+begun v = record v {
+  build = record { right = 1; looked = 0; unborn = []; lost = []; settled = [] };
+  own = record v.own { begun = v.own.begun + 1 };
+}
 
 abbrev pub refused : View → View
 refused v = record v { own = record v.own { refused = v.own.refused + 1 } }
@@ -76,7 +88,10 @@ published n v = record v {
 
 -- see, and a take that leaves the name: answered Unborn, Here and Lost(line)
 abbrev pub told_unborn : ℕ → View → View
-told_unborn n v = record v { build = record v.build { unborn = n ∷ v.build.unborn }; own = record v.own { unborn = n ∷ v.own.unborn } }
+told_unborn n v = record v {
+  build = record v.build { unborn = n ∷ v.build.unborn };
+  own = record v.own { unborn = n ∷ v.own.unborn };
+}
 
 abbrev pub told_here : ℕ → View → View
 told_here n v = record v {
@@ -131,7 +146,9 @@ losing n l v = record v { inside = record v.inside { losing = n + 1; line = l } 
 
 abbrev pub lost : ℕ → ℕ → View → View
 lost n l v = record v {
-  made = record v.made { changes = record v.made.changes { lost = (record { name = n; line = l }) ∷ v.made.changes.lost } };
+  made = record v.made {
+    changes = record v.made.changes { lost = (record { name = n; line = l }) ∷ v.made.changes.lost };
+  };
   own = record v.own { made_lost = (record { name = n; line = l }) ∷ v.own.made_lost };
   inside = record v.inside { losing = 0 };
 }
@@ -139,7 +156,8 @@ lost n l v = record v {
 abbrev pub not_lost : ℕ → View → View
 not_lost n v = record v { own = record v.own { not_lost = n ∷ v.own.not_lost } }
 
--- drop: the name is Taken, and then Dropped; or its first try met Lost, and the second turns it into Dropped at once; or it is answered Nothing
+-- drop: the name is Taken, and then Dropped; or its first try met Lost, and the second turns it into Dropped at once;
+-- or it is answered Nothing
 abbrev pub dropping : ℕ → View → View
 dropping n v = record v { inside = record v.inside { dropping = n + 1 } }
 
@@ -163,7 +181,10 @@ dropped_lost n v = record v {
 }
 
 abbrev pub not_dropped : ℕ → View → View
-not_dropped n v = record v { own = record v.own { not_dropped = n ∷ v.own.not_dropped }; inside = record v.inside { trying = 0 } }
+not_dropped n v = record v {
+  own = record v.own { not_dropped = n ∷ v.own.not_dropped };
+  inside = record v.inside { trying = 0 };
+}
 
 -- nothing made, nothing met, nothing begun
 abbrev pub no_changes : Changes

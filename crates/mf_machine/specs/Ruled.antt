@@ -1,4 +1,5 @@
--- The rule in the form in which each step keeps it: each word is a sum over the opening and all actors, and each actor's facts hold by sums that never fall. The ten rules of `Kept` follow from it.
+-- The rule in the form in which each step keeps it: each word is a sum over the opening and all actors, and each
+-- actor's facts hold by sums that never fall. The ten rules of `Kept` follow from it.
 use Rattle.std.specs.Prelude.{◌≡◌, ◌≢◌, ◌⊎◌, ℕ, ◌+◌, ◌*◌, ◌^◌, ◌<◌, ◌≤◌, List}
 use mathlib.Core.Option.{some}
 use lib.ListN.{get_elem?}
@@ -45,9 +46,12 @@ pub record Words (f : File) (k : Opening) (s : State) : Type 0 where
   pub right : s.right ≡ total right_of s.views
   pub one : s.right ≤ 1
   pub shares : total share_of s.views ≤ 2 ^ 30
-  pub pins : (g : ℕ) → g < f.stages → PinsAre s.number g (s.pins g) ((tally k s.views).shuts g) (total (live g) s.views) (total (pins g) s.views)
-  pub names : (n : ℕ) → n < f.names → NameIs f k n (s.name n) (s.home n) (counts n s.views) ((tally k s.views).lost_by n) (tally k s.views).shuts
-  pub born : (g : ℕ) → g < f.stages → 0 < (tally k s.views).heard (g + 1) → (n : ℕ) → n < f.names → Holds f g n → s.name n ≢ 0
+  pub pins : (g : ℕ) → g < f.stages
+      → PinsAre s.number g (s.pins g) ((tally k s.views).shuts g) (total (live g) s.views) (total (pins g) s.views)
+  pub names : (n : ℕ) → n < f.names
+      → NameIs f k n (s.name n) (s.home n) (counts n s.views) ((tally k s.views).lost_by n) (tally k s.views).shuts
+  pub born : (g : ℕ) → g < f.stages → 0 < (tally k s.views).heard (g + 1)
+      → (n : ℕ) → n < f.names → Holds f g n → s.name n ≢ 0
 
 -- what an actor has seen
 pub record SeenIs (number : ℕ) (name : ℕ → ℕ) (a : Tally) (s : Seen) : Type 0 where
@@ -75,7 +79,8 @@ pub record BuildIs (name : ℕ → ℕ) (b : Build) (i : Inside) : Type 0 where
 
 -- its pins on open generations
 abbrev pub PinsKnow : File → (hold work : ℕ) → Met → Type 0
-PinsKnow f hold work m = (g : ℕ) → 0 < on g hold work → (g < f.stages) × (0 < times (g + 1) m.numbers) × (0 < times g m.opened)
+PinsKnow f hold work m = (g : ℕ) → 0 < on g hold work
+    → (g < f.stages) × (0 < times (g + 1) m.numbers) × (0 < times g m.opened)
 
 -- its pins on closed ones
 abbrev pub StraysKnow : (share : ℕ) → (strays shut : List ℕ) → Type 0
@@ -88,7 +93,8 @@ pub record InsideIs (f : File) (name : ℕ → ℕ) (i : Inside) (hold work last
   pub retaking : (n : ℕ) → i.retaking ≡ n + 1 → (n < f.names) × WorkHolds f b last work n
   pub losing : (n : ℕ) → i.losing ≡ n + 1 → n < f.names
   pub dropping : (n : ℕ) → i.dropping ≡ n + 1 → (n < f.names) × AllShown f m n
-  pub trying : (n : ℕ) → i.trying ≡ n + 1 → (n < f.names) × AllShown f m n × (4 ≤ i.tried) × ((name n ≡ i.tried) ⊎ (name n ≡ 3))
+  pub trying : (n : ℕ) → i.trying ≡ n + 1
+      → (n < f.names) × AllShown f m n × (4 ≤ i.tried) × ((name n ≡ i.tried) ⊎ (name n ≡ 3))
 
 -- what it was answered, and each actor that it took in
 pub record MetIs (k : Opening) (a : Tally) (m : Met) : Type 0 where

@@ -1,7 +1,8 @@
 //! The laws. A reached state is what any list of moves of any number of actors, splits and joins included, makes of any
 //! file at rest.
 ghost use Rattle.mf_machine.specs.Exhibits.{EachBreaks, SomeRun};
-ghost use Rattle.mf_machine.specs.Laws.{AddsUp, AnswersTell, CausesLeadBack, LastBringsBack, Law, NotesTrue, OnlyGrows, PinnedStays, RestIsKept};
+ghost use Rattle.mf_machine.specs.Laws.{AddsUp, AnswersTell, CausesLeadBack, LastBringsBack, Law};
+ghost use Rattle.mf_machine.specs.Laws.{NotesTrue, OnlyGrows, PinnedStays, RestIsKept};
 
 /// The ten rules hold in every reached state.
 pub fn rules_are_kept()

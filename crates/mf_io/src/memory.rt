@@ -1,5 +1,6 @@
 //! A source and a sink in memory, which give and take pieces of a chosen size and fail at chosen calls.
-ghost use Rattle.std.specs.Prelude.{◌≡◌, ◌<◌, ◌≤◌, ◌↔◌, [], min, length, drop, Contains, IsErr, IfOk, IsTrue, OnErr, Some};
+ghost use Rattle.std.specs.Prelude.{◌≡◌, ◌<◌, ◌≤◌, ◌↔◌, [], min, length, drop, Contains, IsErr};
+ghost use Rattle.std.specs.Prelude.{IfOk, IsTrue, OnErr, Some};
 ghost use Rattle.std.specs.Io.{ReadsAtMost, WritesAtMost};
 ghost use Rattle.std.specs.Io.KnownBytes.{ReadConsumes, WriteAppends};
 ghost use Rattle.mf_io.specs.Faults.{CountsFailure};
@@ -159,7 +160,8 @@ impl Sink for MemorySink {
     fn write(&mut self, piece: &[u8]) -> Result<usize, Failed>
         ensures bound { WritesAtMost result piece.now }
         ensures progress { IfOk result (λ n. 0 < length piece.now → 0 < n) }
-        ensures bytes { WriteAppends (Some self.old.written) (Some self.new.written) result piece.now }
+        ensures bytes { WriteAppends (Some self.old.written) (Some self.new.written)
+            result piece.now }
         ensures count { CountsFailure self.old.faults self.new.faults result }
 
         // The listed calls fail. Others do so for want of memory alone.

@@ -6,6 +6,7 @@ pub data Command : Type 0 where
   create : (name : List ℕ) → Command
   read : (name : List ℕ) → Command
 
+-- a command as a script and a report spell it
 abbrev pub command_text : Command → List ℕ
 command_text (create name) = codes "create " ++ name
 command_text (read name) = codes "read " ++ name

@@ -36,4 +36,6 @@ pub record SumFits (a b : Io) : Type 0 where
 
 -- the word `io`, and the seven numbers, each behind a space
 unfoldable pub io_text : Io → List ℕ
-io_text io = codes "io" ++ spaced io.pieces ++ spaced io.copies ++ spaced io.parities ++ spaced io.misses ++ spaced io.writes ++ spaced io.probes ++ spaced io.drops
+io_text io =
+    codes "io" ++ spaced io.pieces ++ spaced io.copies ++ spaced io.parities ++ spaced io.misses
+    ++ spaced io.writes ++ spaced io.probes ++ spaced io.drops

@@ -5,3 +5,4 @@ pub mod Commands
 pub mod Outcomes
 pub mod Report
 pub mod Refusals
+pub mod Names

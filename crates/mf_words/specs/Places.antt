@@ -5,4 +5,5 @@ use Rattle.mf_words.specs.declared.places.Place.{Place}
 
 -- phase, client and command, from 1, between points
 unfoldable pub place_text : Place → List ℕ
-place_text place = decimal_text place.phase ++ codes "." ++ decimal_text place.client ++ codes "." ++ decimal_text place.command
+place_text place =
+    decimal_text place.phase ++ codes "." ++ decimal_text place.client ++ codes "." ++ decimal_text place.command

@@ -16,8 +16,11 @@ pub record Done : Type 0 where
   pub outcome : Outcome
   pub io : Io
 
+-- the line of a command that was done
 abbrev pub done_line : Done → List ℕ
-done_line done = place_text done.place ++ codes " " ++ command_text done.command ++ codes ": " ++ outcome_text done.outcome ++ codes " " ++ io_text done.io
+done_line done =
+    place_text done.place ++ codes " " ++ command_text done.command ++ codes ": " ++ outcome_text done.outcome
+    ++ codes " " ++ io_text done.io
 
 -- the operations of these commands
 abbrev pub io_of : List Done → Io
@@ -31,5 +34,6 @@ report_lines dones =
     ∷ (codes "converts " ++ io_text (io_of (filter (λ done. converts done.command) dones)))
     ∷ codes "end" ∷ []
 
+-- the text of a report
 abbrev pub report_text : List Done → List ℕ
 report_text dones = text_of_lines (report_lines dones)

@@ -56,8 +56,8 @@ impl Io {
 
     // The word `io` and the first four numbers.
     fn push_reads(&self, out: &mut Vec<u8>) -> Result<(), AllocError>
-        ensures ok { OnOk result (out.new.items ≡ out.old.items ++ (codes "io" ++ spaced self.now.pieces
-            ++ spaced self.now.copies ++ spaced self.now.parities ++ spaced self.now.misses)) }
+        ensures ok { OnOk result (out.new.items ≡ out.old.items
+            ++ (codes "io" ++ spaced self.now.pieces ++ spaced self.now.copies ++ spaced self.now.parities ++ spaced self.now.misses)) }
         ensures kept { StartsWith out.new.items out.old.items }
     {
         out.extend_from_slice(b"io")?;

@@ -1,11 +1,13 @@
 pub mod ListLemmas
+pub mod ContextLemmas
 pub mod CheckLemmas
 pub mod DraftLemmas
 pub mod OrderLemmas
 pub mod ReadingLemmas
+pub mod PassLemmas
 pub mod SpellingLemmas
 pub mod MeaningLemmas
 pub mod RoundTrip
 pub mod TextLemmas
-mod Taking
 pub mod ScriptLemmas
+pub mod Exclusive

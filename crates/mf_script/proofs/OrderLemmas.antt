@@ -1,5 +1,5 @@
 -- What a line that has a form is known to be.
-use Rattle.std.proofs.Common.{◌≡◌, ℕ, Bool, true, false, not, cond, List, Option, Some, None, Result, Ok, Err, refl, sym, ap, ◌∙◌, subst, inl, inr, ◌⊎◌}
+use Rattle.std.proofs.Common.{◌≡◌, ℕ, Bool, true, false, List, Option, Some, None, Ok, refl, sym, ap, ◌∙◌, subst, inl, inr, ◌⊎◌}
 use Rattle.std.specs.Prelude.{is_some, codes}
 use Rattle.std.specs.Str.{bytes_eq}
 use Rattle.std.proofs.lemmas.Bool.{cases_Bool, cond-true, cond-false, not-false}
@@ -12,7 +12,10 @@ use Rattle.mf_script.specs.declared.line_words.ContentWord.TheVariants as conten
 use Rattle.mf_script.specs.declared.kinds.LineKind.{LineKind}
 use Rattle.mf_script.specs.declared.drafts.Draft.{Draft}
 use Rattle.mf_script.specs.Spelling.{word_of, content_word_of}
-use Rattle.mf_script.specs.Forms.{Form, morph_line, servers_line, chunk_line, points_line, stage_line, file_line, phase_line, client_line, create_line, read_line, end_line, first_word, Context, with_line}
+use Rattle.mf_script.specs.declared.forms.Form.{Form}
+use Rattle.mf_script.specs.declared.forms.Form.TheVariants as says
+use Rattle.mf_script.specs.Forms.{first_word, Context}
+use Rattle.mf_script.specs.Contexts.{with_line}
 use Rattle.mf_script.specs.Checks.{fault_of}
 use Rattle.mf_script.specs.LineChecks.{word_at, may_follow, is_misplaced, has_name, content_checks, line_checks, form_of}
 use Rattle.mf_script.specs.Reading.{unless, worded, placed, form_at}
@@ -23,7 +26,7 @@ use Rattle.mf_script.proofs.CheckLemmas.{NoFault, NoFault-from}
 
 -- where a line may stand: first, or behind a line that it may follow
 pub record Stands (so : Context) (form : Form) : Type 0 where
-  pub place : ((so.last ≡ None) × (form ≡ morph_line)) ⊎ ((last : LineWord) × (so.last ≡ Some last) × (may_follow last (first_word form) ≡ true))
+  pub place : ((so.last ≡ None) × (form ≡ says.Morph)) ⊎ ((last : LineWord) × (so.last ≡ Some last) × (may_follow last (first_word form) ≡ true))
   pub new : IsNew so form
 
 form_word : (first : LineWord) (so : Context) (line : List ℕ) (ws : List (List ℕ)) → first_word (form_of first so line ws) ≡ first
@@ -97,7 +100,7 @@ placed_stands None so line form was e =
     elim (cases_Bool (bytes_eq line (codes "morph 1"))) [
       | inl holds ↦
           let at = sym (cond-true _ _ _ holds) ∙ e in
-          let is : morph_line ≡ form = cc in
+          let is : says.Morph ≡ form = cc in
           record { place = inl (was, sym is); new = subst (IsNew so) is tt }
       | inr fails ↦ let at = sym (cond-false _ _ _ fails) ∙ e in absurd cc
     ]
@@ -181,17 +184,17 @@ before_read word.Read e = (refl, refl)
 before_read last e = absurd cc
 
 may_add_behind : (draft : Draft) (last : LineWord) (form : Form) → may_follow last (first_word form) ≡ true → is_some draft.phase ≡ in_phase (Some last) → is_some draft.client ≡ in_client (Some last) → MayAdd draft form
-may_add_behind draft last morph_line e p c = tt
-may_add_behind draft last (servers_line n) e p c = tt
-may_add_behind draft last (chunk_line n) e p c = tt
-may_add_behind draft last (points_line ps) e p c = tt
-may_add_behind draft last (stage_line k r n) e p c = tt
-may_add_behind draft last (file_line name matter) e p c = tt
-may_add_behind draft last phase_line e p c = tt
-may_add_behind draft last client_line e p c = p ∙ before_client last e
-may_add_behind draft last (create_line n) e p c = (p ∙ (before_create last e).0, c ∙ (before_create last e).1)
-may_add_behind draft last (read_line n) e p c = (p ∙ (before_read last e).0, c ∙ (before_read last e).1)
-may_add_behind draft last end_line e p c = tt
+may_add_behind draft last says.Morph e p c = tt
+may_add_behind draft last (says.Servers n) e p c = tt
+may_add_behind draft last (says.Chunk n) e p c = tt
+may_add_behind draft last (says.Points ps) e p c = tt
+may_add_behind draft last (says.Stage stage) e p c = tt
+may_add_behind draft last (says.File file) e p c = tt
+may_add_behind draft last says.Phase e p c = tt
+may_add_behind draft last says.Client e p c = p ∙ before_client last e
+may_add_behind draft last (says.Create n) e p c = (p ∙ (before_create last e).0, c ∙ (before_create last e).1)
+may_add_behind draft last (says.Read n) e p c = (p ∙ (before_read last e).0, c ∙ (before_read last e).1)
+may_add_behind draft last says.End e p c = tt
 
 pub MayAdd-from : (draft : Draft) (so : Context) (form : Form) → Stands so form → is_some draft.phase ≡ in_phase so.last → is_some draft.client ≡ in_client so.last → MayAdd draft form
 MayAdd-from draft so form stands p c =
@@ -202,17 +205,17 @@ MayAdd-from draft so form stands p c =
 
 -- the last line is the one that was added
 pub last_is : (so : Context) (form : Form) → (with_line so form).last ≡ Some (first_word form)
-last_is so morph_line = refl
-last_is so (servers_line n) = refl
-last_is so (chunk_line n) = refl
-last_is so (points_line ps) = refl
-last_is so (stage_line k r n) = refl
-last_is so (file_line name matter) = refl
-last_is so phase_line = refl
-last_is so client_line = refl
-last_is so (create_line n) = refl
-last_is so (read_line n) = refl
-last_is so end_line = refl
+last_is so says.Morph = refl
+last_is so (says.Servers n) = refl
+last_is so (says.Chunk n) = refl
+last_is so (says.Points ps) = refl
+last_is so (says.Stage stage) = refl
+last_is so (says.File file) = refl
+last_is so says.Phase = refl
+last_is so says.Client = refl
+last_is so (says.Create n) = refl
+last_is so (says.Read n) = refl
+last_is so says.End = refl
 
 pub phase_is : (so : Context) (form : Form) (was : Bool) → Stands so form → was ≡ in_phase so.last → phase_after was (first_word form) ≡ in_phase (with_line so form).last
 phase_is so form was stands p =

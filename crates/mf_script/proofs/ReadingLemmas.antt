@@ -1,10 +1,8 @@
 -- The loop over the lines of a text.
-use Rattle.std.proofs.Common.{◌≡◌, ℕ, ◌+◌, ◌-◌, ◌<◌, ◌≤◌, ◌^◌, Bool, true, false, List, [], ◌∷◌, ◌++◌, length, map, take, drop, Option, Some, None, Result, Ok, Err, refl, sym, ap, ◌∙◌, subst, arith}
+use Rattle.std.proofs.Common.{◌≡◌, ℕ, ◌+◌, ◌-◌, ◌<◌, ◌≤◌, true, false, List, [], ◌∷◌, ◌++◌, length, take, drop, Option, Some, None, Result, Ok, Err, refl, sym, ap, ◌∙◌, subst, arith, ◌^◌}
 use Rattle.std.specs.Prelude.{is_some, OnOk}
 use Rattle.std.specs.Result.{is_ok}
-use Rattle.std.specs.List.{fold}
-use Rattle.std.proofs.lemmas.Grind.{fold-append}
-use Rattle.std.proofs.lemmas.List.{length_push, length-append, length-drop, length-map, nil_from_length, take_rest}
+use Rattle.std.proofs.lemmas.List.{length_push, length-drop, length-map, nil_from_length, take_rest}
 use Rattle.mf_text.specs.Lines.{lines_of, IsFirstLine}
 use Rattle.mf_text.proofs.LineLemmas.{lines_of-nil}
 use Rattle.mf_script.specs.declared.line_words.LineWord.{LineWord}
@@ -12,20 +10,19 @@ use Rattle.mf_script.specs.declared.line_words.LineWord.TheVariants as word
 use Rattle.mf_script.specs.declared.kinds.LineKind.{LineKind}
 use Rattle.mf_script.specs.declared.kinds.LineKind.TheVariants as kind
 use Rattle.mf_script.specs.declared.kinds.LineFault.{LineFault}
-use Rattle.mf_script.specs.declared.drafts.Draft.{Draft}
 use Rattle.mf_script.specs.declared.reading.Reader.{Reader}
-use Rattle.mf_script.specs.Forms.{Form, morph_line, servers_line, chunk_line, points_line, stage_line, file_line, phase_line, client_line, create_line, read_line, end_line, Context, no_lines, with_line, context_of}
-use Rattle.mf_script.specs.Reading.{end_fault, ended, after, form_at, forms_from}
+use Rattle.mf_script.specs.declared.forms.Form.{Form}
+use Rattle.mf_script.specs.Forms.{Context, context_of}
+use Rattle.mf_script.specs.Contexts.{no_lines, with_line}
+use Rattle.mf_script.specs.Reading.{end_fault, form_at}
+use Rattle.mf_script.specs.Passes.{ended, after, forms_from}
 use Rattle.mf_script.specs.Contexts.{context, names_of}
 use Rattle.mf_script.specs.Meaning.{Script, no_script, with_form, script_from, script_of}
 use Rattle.mf_script.specs.Drafts.{script_in}
-use Rattle.mf_script.specs.Readers.{in_phase, in_client, IsAligned, Adds, Refuses, IsFaultOf, Reads}
+use Rattle.mf_script.proofs.ContextLemmas.{context_of-push, Within-of}
+use Rattle.mf_script.specs.Readers.{in_phase, in_client, IsAligned, Adds, Refuses, IsFaultOf}
 
 -- ---- one more line
-
-pub context_of-push : (forms : List Form) (form : Form) → context_of (forms ++ form ∷ []) ≡ with_line (context_of forms) form
-unfolding context_of
-context_of-push forms form = fold-append with_line no_lines forms (form ∷ [])
 
 script_from-push : (s : Script) (n : ℕ) (forms : List Form) (form : Form) → script_from s n (forms ++ form ∷ []) ≡ with_form (script_from s n forms) (n + length forms) form
 script_from-push s n [] form = ap (λ m. with_form s m form) (omega arith)
@@ -35,39 +32,6 @@ script_from-push s n (f ∷ forms) form =
 pub script_of-push : (forms : List Form) (form : Form) (n : ℕ) → n ≡ length forms → script_of (forms ++ form ∷ []) ≡ with_form (script_of forms) (n + 1) form
 unfolding script_of
 script_of-push forms form n is = script_from-push no_script 1 forms form ∙ ap (λ m. with_form (script_from no_script 1 forms) m form) (omega arith)
-
--- ---- the counts are at most the number of lines
-
-record Within (so : Context) (n : ℕ) : Type 0 where
-  names : length so.names ≤ n
-  phases : so.phases ≤ n
-  clients : so.clients ≤ n
-  commands : so.commands ≤ n
-
-Within-line : (so : Context) (n : ℕ) (form : Form) → Within so n → Within (with_line so form) (n + 1)
-Within-line so n morph_line h = record { names = omega arith; phases = omega arith; clients = omega arith; commands = omega arith }
-Within-line so n (servers_line x) h = record { names = omega arith; phases = omega arith; clients = omega arith; commands = omega arith }
-Within-line so n (chunk_line x) h = record { names = omega arith; phases = omega arith; clients = omega arith; commands = omega arith }
-Within-line so n (points_line x) h = record { names = omega arith; phases = omega arith; clients = omega arith; commands = omega arith }
-Within-line so n (stage_line k r c) h = record { names = omega arith; phases = omega arith; clients = omega arith; commands = omega arith }
-Within-line so n (file_line name matter) h = record { names = omega (arith, length_push so.names name, h.names); phases = omega arith; clients = omega arith; commands = omega arith }
-Within-line so n phase_line h = record { names = omega arith; phases = omega arith; clients = omega arith; commands = omega arith }
-Within-line so n client_line h = record { names = omega arith; phases = omega arith; clients = omega arith; commands = omega arith }
-Within-line so n (create_line x) h = record { names = omega arith; phases = omega arith; clients = omega arith; commands = omega arith }
-Within-line so n (read_line x) h = record { names = omega arith; phases = omega arith; clients = omega arith; commands = omega arith }
-Within-line so n end_line h = record { names = omega arith; phases = omega arith; clients = omega arith; commands = omega arith }
-
-Within-fold : (so : Context) (n : ℕ) (forms : List Form) → Within so n → Within (fold with_line so forms) (n + length forms)
-Within-fold so n [] h = record { names = omega (arith, h.names); phases = omega (arith, h.phases); clients = omega (arith, h.clients); commands = omega (arith, h.commands) }
-Within-fold so n (f ∷ forms) h =
-    let more = Within-fold (with_line so f) (n + 1) forms (Within-line so n f h) in
-    record { names = omega (arith, more.names); phases = omega (arith, more.phases); clients = omega (arith, more.clients); commands = omega (arith, more.commands) }
-
-Within-of : (forms : List Form) → Within (context_of forms) (length forms)
-unfolding context_of
-Within-of forms =
-    let all = Within-fold no_lines 0 forms (record { names = omega arith; phases = omega arith; clients = omega arith; commands = omega arith }) in
-    record { names = omega (arith, all.names); phases = omega (arith, all.phases); clients = omega (arith, all.clients); commands = omega (arith, all.commands) }
 
 -- ---- the loop of `read_lines`: the lines so far have these forms, and the others are those of the rest
 
@@ -81,7 +45,7 @@ pub record Reading (text rest : List ℕ) (reader : Reader) : Type 0 where
   pub used : reader.lines + length rest ≤ length text
   pub goes : forms_from [] (lines_of text) ≡ forms_from forms (lines_of rest)
 
-pub Reading-aligned : (text rest : List ℕ) (reader : Reader) → Reading text rest reader → length text ≤ 1048576 → IsAligned reader
+pub Reading-aligned : (text rest : List ℕ) (reader : Reader) → Reading text rest reader → length text < 2 ^ 31 → IsAligned reader
 Reading-aligned text rest reader so small =
     let within = Within-of so.forms in
     let names : length (names_of reader.before.names.keys) ≡ length (context_of so.forms).names = ap (λ (c : Context). length c.names) so.so in

@@ -1,78 +1,65 @@
 -- What is printed of a script that was read is read as the same forms.
-use Rattle.std.proofs.Common.{◌≡◌, ℕ, ◌+◌, ◌-◌, ◌<◌, ◌≤◌, Bool, true, false, cond, get_or, eqb, ltb, List, [], ◌∷◌, ◌++◌, map, length, Option, Some, None, Result, Ok, Err, refl, sym, ap, ◌∙◌, subst, arith, inl, inr}
-use Rattle.std.specs.List.{position_or_len, fold, AllByRecursion, slice_split, join_with_byte}
+use Rattle.std.proofs.Common.{◌≡◌, ℕ, ◌+◌, ◌-◌, ◌<◌, ◌≤◌, true, get_or, eqb, ltb, List, [], ◌∷◌, ◌++◌, map, length, Option, Some, None, Result, Ok, Err, refl, sym, ap, ◌∙◌, subst, arith, inl, inr}
+use Rattle.std.specs.List.{flat_map, position_or_len, AllByRecursion, slice_split, join_with_byte}
 use Rattle.std.specs.Str.Lines.{lines_of_parts, strip_carriage_return}
 use Rattle.std.proofs.lemmas.Bool.{cases_Bool, cond-true, cond-false, ltb-false, le-ltb}
-use Rattle.std.proofs.lemmas.Grind.{fold-append}
-use Rattle.std.proofs.lemmas.List.{append_assoc, append-nil, map_push, length-append, length-take, nil_from_length}
+use Rattle.std.proofs.lemmas.Grind.{flat_map-append}
+use Rattle.std.proofs.lemmas.List.{append_assoc, append-nil, map_push, length-append, length-take}
 use Rattle.std.proofs.lemmas.List.Splits.{join_with_byte-slice_split}
+use Rattle.mf_shape.specs.declared.Stage.{Stage}
 use Rattle.mf_text.specs.Lines.{lines_of, is_clean}
 use Rattle.mf_text.proofs.LineLemmas.{AreLines, lines_of-join}
 use Rattle.mf_script.specs.declared.line_words.LineWord.{LineWord}
 use Rattle.mf_script.specs.declared.line_words.LineWord.TheVariants as word
 use Rattle.mf_script.specs.declared.kinds.LineKind.{LineKind}
-use Rattle.mf_script.specs.declared.kinds.LineFault.{LineFault}
-use Rattle.mf_script.specs.Forms.{Form, morph_line, servers_line, chunk_line, points_line, stage_line, file_line, phase_line, client_line, create_line, read_line, end_line, first_word, Context, no_lines, with_line, context_of}
-use Rattle.mf_script.specs.Reading.{end_fault, ended, after, form_at, forms_from, forms_of}
+use Rattle.mf_script.specs.declared.forms.Form.{Form}
+use Rattle.mf_script.specs.declared.forms.Form.TheVariants as says
+use Rattle.mf_script.specs.Forms.{first_word, names_said, Context, context_of}
+use Rattle.mf_script.specs.Contexts.{with_line}
+use Rattle.mf_script.specs.Reading.{end_fault, form_at}
+use Rattle.mf_script.specs.Passes.{after, forms_from, forms_of}
 use Rattle.mf_script.specs.Meaning.{Script, no_script, with_form, script_from, script_of}
-use Rattle.mf_script.specs.Printing.{line_text, script_forms, script_names, script_text}
+use Rattle.mf_script.specs.Printing.{line_text, names_in, script_text}
 use Rattle.mf_script.specs.LineChecks.{may_follow}
-use Rattle.mf_script.specs.Faults.{is_stage, stage_at}
+use Rattle.mf_script.specs.Faults.{is_stage, first_stage_line}
 use Rattle.mf_script.proofs.OrderLemmas.{Stands, Stands-from, last_is}
 use Rattle.mf_script.proofs.SpellingLemmas.{line_is}
-use Rattle.mf_script.proofs.MeaningLemmas.{Built, Built-none, Built-end, Built-stands, KnowsFile, line_known, line_text-more, line_text-some}
-use Rattle.mf_script.proofs.ReadingLemmas.{context_of-push, script_of-push}
+use Rattle.mf_script.proofs.MeaningLemmas.{Built, Built-none, Built-end, Built-stands, line_known, line_text-more, line_text-some}
+use Rattle.mf_script.proofs.ContextLemmas.{context_of-push}
+use Rattle.mf_script.proofs.PassLemmas.{ends, ended_ok}
+use Rattle.mf_script.proofs.ReadingLemmas.{script_of-push}
 
 -- ---- names only grow
 
-names_line : (so : Context) (form : Form) → (more : List (List ℕ)) × ((with_line so form).names ≡ so.names ++ more)
-names_line so morph_line = ([], sym (append-nil so.names))
-names_line so (servers_line n) = ([], sym (append-nil so.names))
-names_line so (chunk_line n) = ([], sym (append-nil so.names))
-names_line so (points_line ps) = ([], sym (append-nil so.names))
-names_line so (stage_line k r c) = ([], sym (append-nil so.names))
-names_line so (file_line name matter) = (name ∷ [], refl)
-names_line so phase_line = ([], sym (append-nil so.names))
-names_line so client_line = ([], sym (append-nil so.names))
-names_line so (create_line n) = ([], sym (append-nil so.names))
-names_line so (read_line n) = ([], sym (append-nil so.names))
-names_line so end_line = ([], sym (append-nil so.names))
-
-names_fold : (so : Context) (forms : List Form) → (more : List (List ℕ)) × ((fold with_line so forms).names ≡ so.names ++ more)
-names_fold so [] = ([], sym (append-nil so.names))
-names_fold so (f ∷ forms) =
-    let one = names_line so f in
-    let rest = names_fold (with_line so f) forms in
-    (one.0 ++ rest.0, rest.1 ∙ ap (λ x. x ++ rest.0) one.1 ∙ append_assoc so.names one.0 rest.0)
-
 names_grow : (before rest : List Form) → (more : List (List ℕ)) × ((context_of (before ++ rest)).names ≡ (context_of before).names ++ more)
 unfolding context_of
-names_grow before rest =
-    let grown = names_fold (fold with_line no_lines before) rest in
-    (grown.0, ap (λ (c : Context). c.names) (fold-append with_line no_lines before rest) ∙ grown.1)
+names_grow before rest = (flat_map names_said rest, flat_map-append names_said before rest)
 
 -- the names of the files of a script are those of its lines
 
-names_form : (s : Script) (so : Context) (n : ℕ) (form : Form) → script_names s ≡ so.names → script_names (with_form s n form) ≡ (with_line so form).names
-names_form s so n morph_line e = e
-names_form s so n (servers_line x) e = e
-names_form s so n (chunk_line x) e = e
-names_form s so n (points_line ps) e = e
-names_form s so n (stage_line k r c) e = e
-names_form s so n (file_line name matter) e = map_push (λ file. file.name) s.files (record { name = name; matter = matter }) ∙ ap (λ x. x ++ name ∷ []) e
-names_form s so n phase_line e = e
-names_form s so n client_line e = e
-names_form s so n (create_line x) e = e
-names_form s so n (read_line x) e = e
-names_form s so n end_line e = e
+names_form : (s : Script) (n : ℕ) (form : Form) → names_in (with_form s n form).files ≡ names_in s.files ++ names_said form
+names_form s n says.Morph = sym (append-nil (names_in s.files))
+names_form s n (says.Servers x) = sym (append-nil (names_in s.files))
+names_form s n (says.Chunk x) = sym (append-nil (names_in s.files))
+names_form s n (says.Points points) = sym (append-nil (names_in s.files))
+names_form s n (says.Stage stage) = sym (append-nil (names_in s.files))
+names_form s n (says.File file) = map_push (λ f. f.name) s.files file
+names_form s n says.Phase = sym (append-nil (names_in s.files))
+names_form s n says.Client = sym (append-nil (names_in s.files))
+names_form s n (says.Create x) = sym (append-nil (names_in s.files))
+names_form s n (says.Read x) = sym (append-nil (names_in s.files))
+names_form s n says.End = sym (append-nil (names_in s.files))
 
-names_from : (s : Script) (so : Context) (n : ℕ) (forms : List Form) → script_names s ≡ so.names → script_names (script_from s n forms) ≡ (fold with_line so forms).names
-names_from s so n [] e = e
-names_from s so n (f ∷ forms) e = names_from (with_form s n f) (with_line so f) (n + 1) forms (names_form s so n f e)
+names_from : (s : Script) (n : ℕ) (forms : List Form) → names_in (script_from s n forms).files ≡ names_in s.files ++ flat_map names_said forms
+names_from s n [] = sym (append-nil (names_in s.files))
+names_from s n (f ∷ forms) =
+    names_from (with_form s n f) (n + 1) forms
+    ∙ ap (λ ns. ns ++ flat_map names_said forms) (names_form s n f)
+    ∙ append_assoc (names_in s.files) (names_said f) (flat_map names_said forms)
 
-names_of_script : (forms : List Form) → script_names (script_of forms) ≡ (context_of forms).names
+names_of_script : (forms : List Form) → names_in (script_of forms).files ≡ (context_of forms).names
 unfolding script_of context_of
-names_of_script forms = names_from no_script no_lines 1 forms refl
+names_of_script forms = names_from no_script 1 forms
 
 -- ---- along the lines
 
@@ -82,15 +69,6 @@ record Told (before : List Form) (lines : List (List ℕ)) (all : List Form) : T
   texts : lines ≡ map (line_text (context_of all).names) rest
   clean : AllByRecursion (λ line. (is_clean line ≡ true) × (0 < length line)) lines
   built : Built (Some word.End) (script_of all) all
-
-ends : (last : Option LineWord) → end_fault last ≡ None → last ≡ Some word.End
-ends None e = absurd cc
-ends (Some word.End) e = refl
-ends (Some last) e = absurd cc
-
-ended_ok : (before all : List Form) (fault : Option LineKind) → ended before fault ≡ Ok all → (fault ≡ None) × (before ≡ all)
-ended_ok before all None e = (refl, cc)
-ended_ok before all (Some fault) e = absurd cc
 
 told_line : (before : List Form) (line : List ℕ) (lines : List (List ℕ)) (all : List Form) (form : Form) → form_at (context_of before) line ≡ Ok form → Told (before ++ form ∷ []) lines all → Told before (line ∷ lines) all
 told_line before line lines all form at more =
@@ -180,7 +158,7 @@ start = Built-none
 printed_is : (text : List ℕ) (forms : List Form) → Told [] (lines_of text) forms → script_text (script_of forms) ≡ join_with_byte 10 (lines_of text)
 unfolding script_text
 printed_is text forms told =
-    ap (λ fs. join_with_byte 10 (map (line_text (script_names (script_of forms))) fs)) (Built-end (script_of forms) forms told.built ∙ told.whole)
+    ap (λ fs. join_with_byte 10 (map (line_text (names_in (script_of forms).files)) fs)) (Built-end (script_of forms) forms told.built ∙ told.whole)
     ∙ ap (λ ns. join_with_byte 10 (map (line_text ns) told.rest)) (names_of_script forms)
     ∙ ap (join_with_byte 10) (sym told.texts)
 
@@ -214,24 +192,24 @@ next_form before (line ∷ lines) all more e = go (form_at (context_of before) l
     go (Err fault) at x = absurd cc
 
 -- the form behind each of the store's lines
-follows_morph : (form : Form) → may_follow word.Morph (first_word form) ≡ true → (n : ℕ) × (form ≡ servers_line n)
+follows_morph : (form : Form) → may_follow word.Morph (first_word form) ≡ true → (n : ℕ) × (form ≡ says.Servers n)
 unfolding may_follow
-follows_morph (servers_line n) e = (n, refl)
+follows_morph (says.Servers n) e = (n, refl)
 follows_morph form e = absurd cc
 
-follows_servers : (form : Form) → may_follow word.Servers (first_word form) ≡ true → (n : ℕ) × (form ≡ chunk_line n)
+follows_servers : (form : Form) → may_follow word.Servers (first_word form) ≡ true → (n : ℕ) × (form ≡ says.Chunk n)
 unfolding may_follow
-follows_servers (chunk_line n) e = (n, refl)
+follows_servers (says.Chunk n) e = (n, refl)
 follows_servers form e = absurd cc
 
-follows_chunk : (form : Form) → may_follow word.Chunk (first_word form) ≡ true → (ps : List ℕ) × (form ≡ points_line ps)
+follows_chunk : (form : Form) → may_follow word.Chunk (first_word form) ≡ true → (ps : List ℕ) × (form ≡ says.Points ps)
 unfolding may_follow
-follows_chunk (points_line ps) e = (ps, refl)
+follows_chunk (says.Points ps) e = (ps, refl)
 follows_chunk form e = absurd cc
 
-follows_points : (form : Form) → may_follow word.Points (first_word form) ≡ true → (k : ℕ) × (r : ℕ) × (c : ℕ) × (form ≡ stage_line k r c)
+follows_points : (form : Form) → may_follow word.Points (first_word form) ≡ true → (stage : Stage) × (form ≡ says.Stage stage)
 unfolding may_follow
-follows_points (stage_line k r c) e = (k, r, c, refl)
+follows_points (says.Stage stage) e = (stage, refl)
 follows_points form e = absurd cc
 
 -- the word of the line that a line stands behind
@@ -242,7 +220,7 @@ behind so form last is stands =
       | inr b ↦ let same = sym b.1 ∙ is in let eq : b.0 ≡ last = cc in subst (λ l. may_follow l (first_word form) ≡ true) eq b.2
     ]
 
-first_is : (so : Context) (form : Form) → so.last ≡ None → Stands so form → form ≡ morph_line
+first_is : (so : Context) (form : Form) → so.last ≡ None → Stands so form → form ≡ says.Morph
 first_is so form is stands =
     elim stands.place [
       | inl first ↦ first.1
@@ -266,11 +244,11 @@ extends before (line ∷ lines) all e = go (form_at (context_of before) line) e 
     go (Ok form) x more = let m = more form x in (form ∷ m.0, m.1 ∙ append_assoc before (form ∷ []) m.0)
     go (Err fault) x more = absurd cc
 
-stage_line_5 : (lines : List (List ℕ)) (all : List Form) → forms_from [] lines ≡ Ok all → stage_at all ≡ 5
-unfolding stage_at context_of
+stage_line_5 : (lines : List (List ℕ)) (all : List Form) → forms_from [] lines ≡ Ok all → first_stage_line all ≡ 5
+unfolding first_stage_line context_of
 stage_line_5 lines all e =
     let a = next_form [] lines all (λ x. cc) e in
-    let a-is : a.form ≡ morph_line = first_is (context_of []) a.form refl a.stands in
+    let a-is : a.form ≡ says.Morph = first_is (context_of []) a.form refl a.stands in
     let a-last = last_of [] a.form word.Morph (ap first_word a-is) in
     let b = next_form ([] ++ a.form ∷ []) a.lines all (not_end ([] ++ a.form ∷ []) (Some word.Morph) a-last (λ x. cc)) a.goes in
     let b-is = follows_morph b.form (behind (context_of ([] ++ a.form ∷ [])) b.form word.Morph a-last b.stands) in
@@ -287,8 +265,8 @@ stage_line_5 lines all e =
     let h = next_form four g.lines all (not_end four (Some word.Points) g-last (λ x. cc)) g.goes in
     let h-is = follows_points h.form (behind (context_of four) h.form word.Points g-last h.stands) in
     let whole = extends (four ++ h.form ∷ []) h.lines all h.goes in
-    ap stage_at whole.1
-    ∙ (λ i. position_or_len is_stage (a-is i ∷ b-is.1 i ∷ d-is.1 i ∷ g-is.1 i ∷ h-is.3 i ∷ whole.0) + 1)
+    ap first_stage_line whole.1
+    ∙ (λ i. position_or_len is_stage (a-is i ∷ b-is.1 i ∷ d-is.1 i ∷ g-is.1 i ∷ h-is.1 i ∷ whole.0) + 1)
 
-pub first_stage : (text : List ℕ) (forms : List Form) → forms_of text ≡ Ok forms → stage_at forms ≡ 5
+pub first_stage : (text : List ℕ) (forms : List Form) → forms_of text ≡ Ok forms → first_stage_line forms ≡ 5
 first_stage text forms e = stage_line_5 (lines_of text) forms (too_long text forms e).1

@@ -1,13 +1,13 @@
 -- A line that has a form is that form's text.
-use Rattle.std.proofs.Common.{◌≡◌, ℕ, zero, suc, ◌+◌, ◌-◌, ◌<◌, ◌≤◌, Bool, true, false, ◌&&◌, ◌||◌, not, cond, eqb, ltb, List, [], ◌∷◌, ◌++◌, length, get_or, map, take, drop, Option, Some, None, Result, Ok, Err, refl, sym, ap, ◌∙◌, subst, arith, inl, inr}
-use Rattle.std.specs.Prelude.{codes, is_some, unwrap_or}
-use Rattle.std.specs.List.{list_all, list_any, position_or_len, join_with_byte}
+use Rattle.std.proofs.Common.{◌≡◌, ℕ, suc, ◌+◌, ◌<◌, ◌≤◌, Bool, true, false, ◌&&◌, ◌||◌, not, eqb, ltb, List, [], ◌∷◌, ◌++◌, length, map, drop, Option, Some, None, Ok, refl, sym, ap, ◌∙◌, arith, inl, inr, subst}
+use Rattle.std.specs.Prelude.{find, codes, is_some, unwrap_or}
+use Rattle.std.specs.List.{list_all, join_with_byte}
 use Rattle.std.specs.Str.{bytes_eq}
 use Rattle.std.proofs.lemmas.Bool.{cases_Bool, cond-true, cond-false, eqb-true, not-false, and_parts, or_parts, ltb-false}
 use Rattle.std.proofs.lemmas.List.{drop_at, append_assoc, length_push}
 use Rattle.std.proofs.lemmas.Slice.Eq.{bytes_eq-Decides}
 use Rattle.mf_text.specs.Decimal.{decimal_text, decimal_of}
-use Rattle.mf_text.specs.Hex.{hex_text, is_hex_word, hex_value, hex_of}
+use Rattle.mf_text.specs.Hex.{hex_text, is_hex_word, hex_value}
 use Rattle.mf_text.specs.Lines.{is_clean}
 use Rattle.mf_text.specs.Words.{words_of}
 use Rattle.mf_text.proofs.DecimalLemmas.{decimal_text-from}
@@ -18,69 +18,37 @@ use Rattle.mf_script.specs.declared.line_words.LineWord.TheVariants as word
 use Rattle.mf_script.specs.declared.line_words.ContentWord.{ContentWord}
 use Rattle.mf_script.specs.declared.line_words.ContentWord.TheVariants as content
 use Rattle.mf_script.specs.declared.kinds.LineKind.{LineKind}
-use Rattle.mf_script.specs.Spelling.{word_of, content_word_of}
-use Rattle.mf_script.specs.Forms.{Form, morph_line, Context}
+use Rattle.mf_script.specs.Spelling.{word_text, line_words, word_of, content_text, given_words, content_word_of}
+use Rattle.mf_script.specs.declared.forms.Form.{Form}
+use Rattle.mf_script.specs.declared.forms.Form.TheVariants as says
+use Rattle.mf_script.specs.Forms.{Context}
 use Rattle.mf_script.specs.Checks.{fault_of}
-use Rattle.mf_script.specs.LineChecks.{word_at, is_number, number_of, rest_of, has_name, file_number, content_checks, line_checks, matter_of, form_of, is_misplaced, may_follow}
+use Rattle.mf_script.specs.LineChecks.{word_at, is_number, number_of, rest_of, has_name, file_number, content_checks, line_checks, content_of, form_of, is_misplaced, may_follow}
 use Rattle.mf_script.specs.Reading.{unless, worded, placed, form_at}
-use Rattle.mf_script.specs.Printing.{matter_words, name_at, form_words, line_text}
+use Rattle.mf_script.specs.Printing.{content_words, name_at, form_words, line_text}
 use Rattle.mf_script.proofs.CheckLemmas.{NoFault, NoFault-from}
 
 -- ---- words
 
--- the bytes of a line word, and of a content word
-abbrev word_text : LineWord → List ℕ
-word_text word.Morph = codes "morph"
-word_text word.Servers = codes "servers"
-word_text word.Chunk = codes "chunk"
-word_text word.Points = codes "points"
-word_text word.Stage = codes "stage"
-word_text word.File = codes "file"
-word_text word.Phase = codes "phase"
-word_text word.Client = codes "client"
-word_text word.Create = codes "create"
-word_text word.Read = codes "read"
-word_text word.End = codes "end"
-
-abbrev content_text : ContentWord → List ℕ
-content_text content.Empty = codes "empty"
-content_text content.Text = codes "text"
-content_text content.Hex = codes "hex"
-content_text content.Pattern = codes "pattern"
-
--- a word that is found by comparing with one text, or among the others
-found : {W : Type 0} (text_of : W → List ℕ) (bytes : List ℕ) (w : W) (others : Option W) (x : W) → (others ≡ Some x → bytes ≡ text_of x) → cond (bytes_eq bytes (text_of w)) (Some w) others ≡ Some x → bytes ≡ text_of x
-found text_of bytes w others x else' e =
-    elim (cases_Bool (bytes_eq bytes (text_of w))) [
+-- what is found passes
+find_passes : {X : Type 0} (p : X → Bool) (xs : List X) (x : X) → find p xs ≡ Some x → p x ≡ true
+find_passes p [] x e = absurd cc
+find_passes p (y ∷ ys) x e =
+    elim (cases_Bool (p y)) [
       | inl holds ↦
           let at = sym (cond-true _ _ _ holds) ∙ e in
-          let is : w ≡ x = cc in
-          (bytes_eq-Decides bytes (text_of w)).0 holds ∙ ap text_of is
-      | inr fails ↦ else' (sym (cond-false _ _ _ fails) ∙ e)
+          let is : y ≡ x = cc in
+          subst (λ z. p z ≡ true) is holds
+      | inr fails ↦ find_passes p ys x (sym (cond-false _ _ _ fails) ∙ e)
     ]
 
 word_is : (bytes : List ℕ) (x : LineWord) → word_of bytes ≡ Some x → bytes ≡ word_text x
 unfolding word_of
-word_is bytes x =
-    found word_text bytes word.Morph _ x
-    (found word_text bytes word.Servers _ x
-    (found word_text bytes word.Chunk _ x
-    (found word_text bytes word.Points _ x
-    (found word_text bytes word.Stage _ x
-    (found word_text bytes word.File _ x
-    (found word_text bytes word.Phase _ x
-    (found word_text bytes word.Client _ x
-    (found word_text bytes word.Create _ x
-    (found word_text bytes word.Read _ x
-    (found word_text bytes word.End _ x (λ e. absurd cc)))))))))))
+word_is bytes x e = (bytes_eq-Decides bytes (word_text x)).0 (find_passes (λ w. bytes_eq bytes (word_text w)) line_words x e)
 
 content_is : (bytes : List ℕ) (x : ContentWord) → content_word_of bytes ≡ Some x → bytes ≡ content_text x
 unfolding content_word_of
-content_is bytes x =
-    found content_text bytes content.Empty _ x
-    (found content_text bytes content.Text _ x
-    (found content_text bytes content.Hex _ x
-    (found content_text bytes content.Pattern _ x (λ e. absurd cc))))
+content_is bytes x e = (bytes_eq-Decides bytes (content_text x)).0 (find_passes (λ w. bytes_eq bytes (content_text w)) given_words x e)
 
 -- ---- numbers
 
@@ -186,7 +154,7 @@ no_morph (Some word.Read) = refl
 no_morph (Some word.End) = refl
 
 content_spelled : (kind : Option ContentWord) (so : Context) (line : List ℕ) (ws : List (List ℕ)) → join_with_byte 32 ws ≡ line → word_at ws 0 ≡ codes "file" → content_word_of (word_at ws 2) ≡ kind → NoFault (content_checks so line ws kind)
-    → line ≡ join_with_byte 32 (codes "file" ∷ word_at ws 1 ∷ matter_words (matter_of line ws kind))
+    → line ≡ join_with_byte 32 (codes "file" ∷ word_at ws 1 ∷ content_words (content_of line ws kind))
 content_spelled None so line ws j w k fine = absurd (let some = fine.arity in cc)
 content_spelled (Some content.Empty) so line ws j w k fine =
     sym j ∙ ap (join_with_byte 32) (three_words ws (eqb-true (length ws) 3 (not-false (eqb (length ws) 3) fine.arity)) ∙ (λ i. w i ∷ word_at ws 1 ∷ content_is (word_at ws 2) content.Empty k i ∷ []))
@@ -245,7 +213,7 @@ placed_spelled None so line form e =
     elim (cases_Bool (bytes_eq line (codes "morph 1"))) [
       | inl holds ↦
           let at = sym (cond-true _ _ _ holds) ∙ e in
-          let is : morph_line ≡ form = cc in
+          let is : says.Morph ≡ form = cc in
           (bytes_eq-Decides line (codes "morph 1")).0 holds ∙ ap (λ f. join_with_byte 32 (form_words so.names f)) is
       | inr fails ↦ let at = sym (cond-false _ _ _ fails) ∙ e in absurd cc
     ]

@@ -1,21 +1,29 @@
 -- The text of a script, written from front to back.
 use Rattle.std.proofs.Common.{◌≡◌, ℕ, ◌+◌, ◌<◌, List, [], ◌∷◌, ◌++◌, map, length, get_or, take, refl, sym, ap, ◌∙◌}
-use Rattle.std.specs.Prelude.{codes}
+use Rattle.std.specs.Prelude.{codes, Result, Ok, Err, OnOk}
 use Rattle.std.specs.List.{flat_map, join_with_byte}
 use Rattle.std.proofs.lemmas.Grind.{flat_map-append}
 use Rattle.std.proofs.lemmas.List.{append_assoc, append-nil, map_more, map_push, take_more}
 use Rattle.mf_text.specs.Decimal.{decimal_text}
 use Rattle.mf_shape.specs.declared.Stage.{Stage}
 use Rattle.mf_script.specs.declared.contents.FileLine.{FileLine}
-use Rattle.mf_script.specs.declared.scripts.Command.{Command}
 use Rattle.mf_script.specs.declared.scripts.Client.{Client}
 use Rattle.mf_script.specs.declared.scripts.Item.{Item}
-use Rattle.mf_script.specs.Forms.{Form, morph_line, servers_line, chunk_line, points_line, client_line, phase_line, end_line}
-use Rattle.mf_script.specs.Meaning.{File, Script}
-use Rattle.mf_script.specs.Drafts.{file_at, clients_of, commands_of}
-use Rattle.mf_script.specs.Printing.{line_text, stage_form, file_form, command_form, client_forms, phase_forms, store_forms, script_forms, script_names, script_text}
-use Rattle.mf_script.proofs.MeaningLemmas.{flat_push}
-use Rattle.mf_script.specs.Texts.{next_line, lines_text, names_in, script_with}
+use Rattle.mf_script.specs.declared.forms.Form.{Form}
+use Rattle.mf_script.specs.declared.forms.Form.TheVariants as says
+use Rattle.mf_script.specs.declared.scripts.Item.TheVariants as item
+use Rattle.mf_script.specs.declared.families.NamedFamily.{NamedFamily}
+use Rattle.mf_script.specs.Meaning.{Block}
+use Rattle.mf_script.specs.Printing.{line_text, client_forms, item_forms, block_forms, script_forms, script_text}
+use Rattle.mf_script.specs.Scripts.{block_of, script_with}
+use Rattle.mf_script.specs.Texts.{next_line, lines_text}
+use Rattle.mf_script.specs.Printing.{names_in}
+use Rattle.mf_script.proofs.ContextLemmas.{flat_push}
+
+-- what holds of a call that gave no error, and what follows from it
+pub on_ok-map : {T E : Type 0} (r : Result T E) (P Q : Type 0) → (P → Q) → OnOk r P → OnOk r Q
+on_ok-map (Ok x) P Q f h = f h
+on_ok-map (Err e) P Q f h = h
 
 -- ---- points
 
@@ -34,7 +42,7 @@ points_more old out points i lt so =
     ∙ ap (λ r. old ++ 10 ∷ r) (append_assoc (codes "points") (flat_map spaced (take i points)) (spaced (get_or points i 0))
     ∙ ap (λ r. codes "points" ++ r) (ap (λ r. flat_map spaced (take i points) ++ r) (sym (append-nil (spaced (get_or points i 0)))) ∙ sym (flat_map-append spaced (take i points) (get_or points i 0 ∷ [])) ∙ ap (flat_map spaced) (sym (take_more points i 0 lt))))
 
-pub points_end : (points : List ℕ) → 10 ∷ (codes "points" ++ flat_map spaced points) ≡ next_line [] (points_line points)
+pub points_end : (points : List ℕ) → 10 ∷ (codes "points" ++ flat_map spaced points) ≡ next_line [] (says.Points points)
 unfolding line_text
 points_end points = ap (λ r. 10 ∷ r) (sym (join_spaced (codes "points") points))
 
@@ -73,53 +81,64 @@ unfolding lines_text
 join_lines names f [] = sym (append-nil (line_text names f))
 join_lines names f (g ∷ fs) = ap (λ r. line_text names f ++ 10 ∷ r) (join_lines names g fs)
 
-stages_text : (names : List (List ℕ)) (stages : List Stage) → lines_text names (map stage_form stages) ≡ lines_text [] (map stage_form stages)
+stages_text : (names : List (List ℕ)) (stages : List Stage) → lines_text names (map says.Stage stages) ≡ lines_text [] (map says.Stage stages)
 unfolding lines_text line_text
 stages_text names [] = refl
-stages_text names (s ∷ stages) = ap (λ r. next_line [] (stage_form s) ++ r) (stages_text names stages)
+stages_text names (s ∷ stages) = ap (λ r. next_line [] (says.Stage s) ++ r) (stages_text names stages)
 
-files_text : (names : List (List ℕ)) (files : List File) → lines_text names (map file_form files) ≡ lines_text [] (map file_form files)
+points_text : (names : List (List ℕ)) (points : List ℕ) (rest : List Form) → lines_text names (says.Points points ∷ rest) ≡ next_line [] (says.Points points) ++ lines_text names rest
+unfolding lines_text line_text
+points_text names points rest = refl
+
+block_text : (names : List (List ℕ)) (block : Block) → lines_text names (block_forms block) ≡ lines_text [] (block_forms block)
+block_text names block =
+    points_text names block.points (map says.Stage block.stages)
+    ∙ ap (λ r. next_line [] (says.Points block.points) ++ r) (stages_text names block.stages)
+    ∙ sym (points_text [] block.points (map says.Stage block.stages))
+
+blocks_text : (names : List (List ℕ)) (blocks : List Block) → lines_text names (flat_map block_forms blocks) ≡ lines_text [] (flat_map block_forms blocks)
+blocks_text names [] = lines_text-nil names ∙ sym (lines_text-nil [])
+blocks_text names (b ∷ blocks) =
+    lines_text-append names (block_forms b) (flat_map block_forms blocks)
+    ∙ (λ i. block_text names b i ++ blocks_text names blocks i)
+    ∙ sym (lines_text-append [] (block_forms b) (flat_map block_forms blocks))
+
+files_text : (names : List (List ℕ)) (files : List FileLine) → lines_text names (map says.File files) ≡ lines_text [] (map says.File files)
 unfolding lines_text line_text
 files_text names [] = refl
-files_text names (f ∷ files) = ap (λ r. next_line [] (file_form f) ++ r) (files_text names files)
+files_text names (f ∷ files) = ap (λ r. next_line [] (says.File f) ++ r) (files_text names files)
 
-store_text : (names : List (List ℕ)) (servers chunk : ℕ) (points : List ℕ) (rest : List Form) → lines_text names (servers_line servers ∷ chunk_line chunk ∷ points_line points ∷ rest) ≡ ((next_line [] (servers_line servers) ++ next_line [] (chunk_line chunk)) ++ next_line [] (points_line points)) ++ lines_text names rest
+store_text : (names : List (List ℕ)) (servers chunk : ℕ) (rest : List Form)
+    → lines_text names (says.Servers servers ∷ says.Chunk chunk ∷ rest) ≡ (next_line [] (says.Servers servers) ++ next_line [] (says.Chunk chunk)) ++ lines_text names rest
 unfolding lines_text line_text
-store_text names servers chunk points rest =
-    sym (append_assoc (next_line [] (servers_line servers) ++ next_line [] (chunk_line chunk)) (next_line [] (points_line points)) (lines_text names rest)
-    ∙ append_assoc (next_line [] (servers_line servers)) (next_line [] (chunk_line chunk)) (next_line [] (points_line points) ++ lines_text names rest))
+store_text names servers chunk rest = sym (append_assoc (next_line [] (says.Servers servers)) (next_line [] (says.Chunk chunk)) (lines_text names rest))
 
-names_are : (files : List FileLine) → map (λ (f : File). f.name) (map file_at files) ≡ names_in files
-names_are [] = refl
-names_are (f ∷ files) = ap (λ r. f.name.items ∷ r) (names_are files)
-
-end_text : (names : List (List ℕ)) → lines_text names (end_line ∷ []) ≡ 10 ∷ codes "end"
+end_text : (names : List (List ℕ)) → lines_text names (says.End ∷ []) ≡ 10 ∷ codes "end"
 unfolding lines_text line_text
 end_text names = refl
 
-regroup : (m a b p s f i e : List ℕ) → m ++ (((a ++ b) ++ p) ++ (((s ++ f) ++ i) ++ e)) ≡ ((((((m ++ a) ++ b) ++ p) ++ s) ++ f) ++ i) ++ e
-regroup m a b p s f i e = sym (simp append_assoc)
+regroup : (m a b s f i e : List ℕ) → m ++ ((a ++ b) ++ (((s ++ f) ++ i) ++ e)) ≡ (((((m ++ a) ++ b) ++ s) ++ f) ++ i) ++ e
+regroup m a b s f i e = sym (simp append_assoc)
 
-pub whole_text : (servers chunk : ℕ) (points : List ℕ) (stages : List Stage) (files : List FileLine) (items : List Item)
-    → ((((((codes "morph 1" ++ next_line [] (servers_line servers)) ++ next_line [] (chunk_line chunk)) ++ next_line [] (points_line points)) ++ lines_text [] (map stage_form stages))
-    ++ lines_text [] (map file_form (map file_at files))) ++ lines_text (names_in files) (flat_map phase_forms (map clients_of items))) ++ 10 ∷ codes "end"
-    ≡ script_text (script_with servers chunk points stages files items)
+pub whole_text : (servers chunk : ℕ) (families : List NamedFamily) (files : List FileLine) (items : List Item)
+    → (((((codes "morph 1" ++ next_line [] (says.Servers servers)) ++ next_line [] (says.Chunk chunk)) ++ lines_text [] (flat_map block_forms (map block_of families)))
+    ++ lines_text [] (map says.File files)) ++ lines_text (names_in files) (flat_map item_forms items)) ++ 10 ∷ codes "end"
+    ≡ script_text (script_with servers chunk families files [] items)
 unfolding script_text script_forms line_text
-whole_text servers chunk points stages files items =
-    let names : List (List ℕ) = map (λ (f : File). f.name) (map file_at files) in
-    let st : List Form = map stage_form stages in
-    let fs : List Form = map file_form (map file_at files) in
-    let ps : List Form = flat_map phase_forms (map clients_of items) in
-    let a : List ℕ = next_line [] (servers_line servers) in
-    let b : List ℕ = next_line [] (chunk_line chunk) in
-    let p : List ℕ = next_line [] (points_line points) in
-    let rest : lines_text names ((st ++ fs ++ ps) ++ end_line ∷ []) ≡ ((lines_text [] st ++ lines_text [] fs) ++ lines_text (names_in files) ps) ++ 10 ∷ codes "end" =
-    lines_text-append names (st ++ fs ++ ps) (end_line ∷ [])
-    ∙ (λ i. (lines_text-append names (st ++ fs) ps ∙ ap (λ x. x ++ lines_text names ps) (lines_text-append names st fs ∙ (λ j. stages_text names stages j ++ files_text names (map file_at files) j)) ∙ ap (λ ns. (lines_text [] st ++ lines_text [] fs) ++ lines_text ns ps) (names_are files)) i ++ end_text names i) in
+whole_text servers chunk families files items =
+    let names : List (List ℕ) = names_in files in
+    let bs : List Form = flat_map block_forms (map block_of families) in
+    let fs : List Form = map says.File files in
+    let ps : List Form = flat_map item_forms items in
+    let a : List ℕ = next_line [] (says.Servers servers) in
+    let b : List ℕ = next_line [] (says.Chunk chunk) in
+    let rest : lines_text names ((bs ++ fs ++ ps) ++ says.End ∷ []) ≡ ((lines_text [] bs ++ lines_text [] fs) ++ lines_text names ps) ++ 10 ∷ codes "end" =
+    lines_text-append names (bs ++ fs ++ ps) (says.End ∷ [])
+    ∙ (λ i. (lines_text-append names (bs ++ fs) ps ∙ ap (λ x. x ++ lines_text names ps) (lines_text-append names bs fs ∙ (λ j. blocks_text names (map block_of families) j ++ files_text names files j))) i ++ end_text names i) in
     sym (
-    join_lines names morph_line (servers_line servers ∷ chunk_line chunk ∷ points_line points ∷ ((st ++ fs ++ ps) ++ end_line ∷ []))
-    ∙ ap (λ x. codes "morph 1" ++ x) (store_text names servers chunk points ((st ++ fs ++ ps) ++ end_line ∷ []) ∙ ap (λ x. ((a ++ b) ++ p) ++ x) rest)
-    ∙ regroup (codes "morph 1") a b p (lines_text [] st) (lines_text [] fs) (lines_text (names_in files) ps) (10 ∷ codes "end"))
+    join_lines names says.Morph (says.Servers servers ∷ says.Chunk chunk ∷ ((bs ++ fs ++ ps) ++ says.End ∷ []))
+    ∙ ap (λ x. codes "morph 1" ++ x) (store_text names servers chunk ((bs ++ fs ++ ps) ++ says.End ∷ []) ∙ ap (λ x. (a ++ b) ++ x) rest)
+    ∙ regroup (codes "morph 1") a b (lines_text [] bs) (lines_text [] fs) (lines_text names ps) (10 ∷ codes "end"))
 
 -- ---- the loops
 
@@ -139,21 +158,34 @@ add_forms names old out forms more so =
 pub map_step : {X Y : Type 0} (f : X → Y) (xs : List X) (i : ℕ) (x : X) → i < length xs → x ≡ get_or xs i x → map f (take i xs) ++ f x ∷ [] ≡ map f (take (i + 1) xs)
 map_step f xs i x lt is = ap (λ y. map f (take i xs) ++ f y ∷ []) is ∙ sym (map_more f xs i x lt)
 
--- the lines of the loops over files, clients and items
-pub file_step : (files : List FileLine) (i : ℕ) (file : FileLine) → i < length files → file ≡ get_or files i file → map file_form (map file_at (take i files)) ++ file_form (file_at file) ∷ [] ≡ map file_form (map file_at (take (i + 1) files))
-file_step files i file lt is = sym (map_push file_form (map file_at (take i files)) (file_at file)) ∙ ap (map file_form) (map_step file_at files i file lt is)
+-- the lines of a family, and those of the loops over families, clients and items
+pub block_lines : (old : List ℕ) (block : Block)
+    → (old ++ next_line [] (says.Points block.points)) ++ lines_text [] (map says.Stage block.stages) ≡ old ++ lines_text [] (block_forms block)
+block_lines old block =
+    append_assoc old (next_line [] (says.Points block.points)) (lines_text [] (map says.Stage block.stages))
+    ∙ ap (λ r. old ++ r) (sym (points_text [] block.points (map says.Stage block.stages)))
 
-pub client_step : (clients : List Client) (i : ℕ) (client : Client) → i < length clients → client ≡ get_or clients i client → phase_forms (commands_of (take i clients)) ++ client_forms client.commands.items ≡ phase_forms (commands_of (take (i + 1) clients))
+pub block_step : (families : List NamedFamily) (i : ℕ) (named : NamedFamily) → i < length families → named ≡ get_or families i named
+    → flat_map block_forms (map block_of (take i families)) ++ block_forms (block_of named) ≡ flat_map block_forms (map block_of (take (i + 1) families))
+block_step families i named lt is =
+    sym (flat_push block_forms (map block_of (take i families)) (block_of named)) ∙ ap (flat_map block_forms) (map_step block_of families i named lt is)
+
+taken_step : {X : Type 0} (xs : List X) (i : ℕ) (x : X) → i < length xs → x ≡ get_or xs i x → take i xs ++ x ∷ [] ≡ take (i + 1) xs
+taken_step xs i x lt is = ap (λ y. take i xs ++ y ∷ []) is ∙ sym (take_more xs i x lt)
+
+pub client_step : (clients : List Client) (i : ℕ) (client : Client) → i < length clients → client ≡ get_or clients i client
+    → item_forms (item.Phase (take i clients)) ++ client_forms client ≡ item_forms (item.Phase (take (i + 1) clients))
 client_step clients i client lt is =
-    ap (λ r. phase_line ∷ r) (sym (flat_push client_forms (commands_of (take i clients)) client.commands.items) ∙ ap (flat_map client_forms) (map_step (λ (c : Client). c.commands.items) clients i client lt is))
+    ap (λ r. says.Phase ∷ r) (sym (flat_push client_forms (take i clients) client) ∙ ap (flat_map client_forms) (taken_step clients i client lt is))
 
-pub item_step : (items : List Item) (i : ℕ) (item : Item) → i < length items → item ≡ get_or items i item → flat_map phase_forms (map clients_of (take i items)) ++ phase_forms (clients_of item) ≡ flat_map phase_forms (map clients_of (take (i + 1) items))
-item_step items i item lt is = sym (flat_push phase_forms (map clients_of (take i items)) (clients_of item)) ∙ ap (flat_map phase_forms) (map_step clients_of items i item lt is)
+pub item_step : (items : List Item) (i : ℕ) (x : Item) → i < length items → x ≡ get_or items i x
+    → flat_map item_forms (take i items) ++ item_forms x ≡ flat_map item_forms (take (i + 1) items)
+item_step items i x lt is = sym (flat_push item_forms (take i items) x) ∙ ap (flat_map item_forms) (taken_step items i x lt is)
 
-pub client_start : (names : List (List ℕ)) → 10 ∷ codes "client" ≡ lines_text names (client_forms [])
+pub client_start : (names : List (List ℕ)) → 10 ∷ codes "client" ≡ lines_text names (says.Client ∷ [])
 unfolding lines_text line_text
 client_start names = refl
 
-pub phase_start : (names : List (List ℕ)) → 10 ∷ codes "phase" ≡ lines_text names (phase_forms [])
+pub phase_start : (names : List (List ℕ)) → 10 ∷ codes "phase" ≡ lines_text names (item_forms (item.Phase []))
 unfolding lines_text line_text
 phase_start names = refl

@@ -1,54 +1,50 @@
 -- What the code has of a script.
-use Rattle.std.specs.Prelude.{◌≡◌, ℕ, Bool, true, false, List, [], ◌∷◌, ◌++◌, map, Option, Some, None, is_some, Vec}
+use Rattle.std.specs.Prelude.{◌≡◌, Bool, true, false, List, [], ◌∷◌, ◌++◌, Option, Some, None, is_some, Vec, codes}
 use Rattle.std.specs.Global.{Global}
 use Rattle.mf_script.specs.declared.line_words.LineWord.{LineWord}
 use Rattle.mf_script.specs.declared.line_words.LineWord.TheVariants as word
-use Rattle.mf_script.specs.declared.contents.FileLine.{FileLine}
 use Rattle.mf_script.specs.declared.scripts.Command.{Command}
 use Rattle.mf_script.specs.declared.scripts.Client.{Client}
 use Rattle.mf_script.specs.declared.scripts.Item.{Item}
 use Rattle.mf_script.specs.declared.scripts.Item.TheVariants as item
 use Rattle.mf_script.specs.declared.drafts.Draft.{Draft}
-use Rattle.mf_script.specs.Said.{matter_said}
-use Rattle.mf_script.specs.Forms.{Form, client_line, create_line, read_line}
-use Rattle.mf_script.specs.Meaning.{File, Script}
+use Rattle.mf_script.specs.declared.forms.Form.{Form}
+use Rattle.mf_script.specs.declared.forms.Form.TheVariants as says
+use Rattle.mf_script.specs.Meaning.{Block, Script}
 
-abbrev pub file_at : FileLine → File
-file_at file = record { name = file.name.items; matter = matter_said file.content }
-
--- the commands of each client
-abbrev pub commands_of : List Client → List (List Command)
-commands_of clients = map (λ client. client.commands.items) clients
-
-abbrev pub clients_of : Item → List (List Command)
-clients_of (item.Phase clients) = commands_of clients.items
-
--- the commands of the client that is open, and the clients of the phase that is
-abbrev pub open_client : Option (Vec Command Global) → List (List Command)
+-- the client that is open
+abbrev pub open_client : Option (Vec Command Global) → List Client
 open_client None = []
-open_client (Some commands) = commands.items ∷ []
+open_client (Some commands) = record { commands = commands.items } ∷ []
 
-abbrev pub open_phase : Option (Vec Client Global) → Option (Vec Command Global) → List (List (List Command))
+-- the phase that is open
+abbrev pub open_phase : Option (Vec Client Global) → Option (Vec Command Global) → List Item
 open_phase None client = []
-open_phase (Some clients) client = (commands_of clients.items ++ open_client client) ∷ []
+open_phase (Some clients) client = item.Phase (clients.items ++ open_client client) ∷ []
 
+-- what the code has of the family
+abbrev pub block_in : Draft → Block
+block_in draft = record { name = codes "main"; points = draft.points; stages = draft.stages.items }
+
+-- and of the whole
 abbrev pub script_in : Draft → Script
 script_in draft =
     record {
       servers = draft.servers;
       chunk = draft.chunk;
-      points = draft.points.items;
-      stages = draft.stages.items;
-      files = map file_at draft.files.items;
-      phases = map clients_of draft.items.items ++ open_phase draft.phase draft.client;
+      families = block_in draft ∷ [];
+      files = draft.files.items;
+      file_families = draft.file_families.items;
+      items = draft.items.items ++ open_phase draft.phase draft.client;
     }
 
--- whether a phase is open behind a line that begins with this word, and whether a client is
+-- whether a phase is open behind a line that begins with this word, where one was open before it or not
 abbrev pub phase_after : Bool → LineWord → Bool
 phase_after was word.Phase = true
 phase_after was word.End = false
 phase_after was next = was
 
+-- and whether a client is
 abbrev pub client_after : Bool → LineWord → Bool
 client_after was word.Phase = false
 client_after was word.Client = true
@@ -57,7 +53,7 @@ client_after was next = was
 
 -- a client wants an open phase, and a command an open client besides
 abbrev pub MayAdd : Draft → Form → Type 0
-MayAdd draft client_line = is_some draft.phase ≡ true
-MayAdd draft (create_line n) = (is_some draft.phase ≡ true) × (is_some draft.client ≡ true)
-MayAdd draft (read_line n) = (is_some draft.phase ≡ true) × (is_some draft.client ≡ true)
+MayAdd draft says.Client = is_some draft.phase ≡ true
+MayAdd draft (says.Create n) = (is_some draft.phase ≡ true) × (is_some draft.client ≡ true)
+MayAdd draft (says.Read n) = (is_some draft.phase ≡ true) × (is_some draft.client ≡ true)
 MayAdd draft form = Unit {0}

@@ -3,37 +3,67 @@ use Rattle.std.specs.Prelude.{ℕ, List, [], ◌∷◌, ◌++◌, map, slice_ind
 use Rattle.std.specs.List.{flat_map, join_with_byte}
 use Rattle.mf_text.specs.Decimal.{decimal_text}
 use Rattle.mf_text.specs.Hex.{hex_text}
-use Rattle.mf_shape.specs.declared.Stage.{Stage}
+use Rattle.mf_script.specs.declared.contents.FileLine.{FileLine}
+use Rattle.mf_script.specs.declared.contents.Content.{Content}
+use Rattle.mf_script.specs.declared.contents.Content.TheVariants as given
 use Rattle.mf_script.specs.declared.scripts.Act.{Act}
 use Rattle.mf_script.specs.declared.scripts.Act.TheVariants as act
 use Rattle.mf_script.specs.declared.scripts.Command.{Command}
-use Rattle.mf_script.specs.Forms.{Matter, empty_matter, text_matter, hex_matter, pattern_matter, Form, morph_line, servers_line, chunk_line, points_line, stage_line, file_line, phase_line, client_line, create_line, read_line, end_line}
-use Rattle.mf_script.specs.Meaning.{File, Script}
+use Rattle.mf_script.specs.declared.scripts.Client.{Client}
+use Rattle.mf_script.specs.declared.scripts.Item.{Item}
+use Rattle.mf_script.specs.declared.scripts.Item.TheVariants as item
+use Rattle.mf_script.specs.declared.forms.Form.{Form}
+use Rattle.mf_script.specs.declared.forms.Form.TheVariants as says
+use Rattle.mf_script.specs.declared.line_words.ContentWord.{ContentWord}
+use Rattle.mf_script.specs.declared.line_words.ContentWord.TheVariants as content
+use Rattle.mf_script.specs.Spelling.{word_text, content_text}
+use Rattle.mf_script.specs.Forms.{first_word}
+use Rattle.mf_script.specs.Meaning.{Block, Script}
 
--- how the bytes of a file are written: a word and what stands behind it
-abbrev pub matter_words : Matter → List (List ℕ)
-matter_words empty_matter = codes "empty" ∷ []
-matter_words (text_matter bytes) = codes "text" ∷ bytes ∷ []
-matter_words (hex_matter bytes) = codes "hex" ∷ hex_text bytes ∷ []
-matter_words (pattern_matter n start) = codes "pattern" ∷ decimal_text n ∷ decimal_text start ∷ []
+-- the word that says how the bytes of a file are given
+abbrev pub content_word : Content → ContentWord
+content_word given.Empty = content.Empty
+content_word (given.Text bytes) = content.Text
+content_word (given.Hex bytes) = content.Hex
+content_word (given.Pattern n start) = content.Pattern
+
+-- what stands behind that word
+abbrev pub behind_content : Content → List (List ℕ)
+behind_content given.Empty = []
+behind_content (given.Text bytes) = bytes ∷ []
+behind_content (given.Hex bytes) = hex_text bytes ∷ []
+behind_content (given.Pattern n start) = decimal_text n ∷ decimal_text start ∷ []
+
+-- how the bytes of a file are written
+abbrev pub content_words : Content → List (List ℕ)
+content_words given = content_text (content_word given) ∷ behind_content given
+
+-- the names of these files
+abbrev pub names_in : List FileLine → List (List ℕ)
+names_in files = map (λ file. file.name) files
 
 -- the name of a file
 abbrev pub name_at : List (List ℕ) → ℕ → List ℕ
 name_at names n = slice_index_or names n []
 
+-- what stands behind a line's first word
+abbrev pub behind_word : List (List ℕ) → Form → List (List ℕ)
+behind_word names says.Morph = codes "1" ∷ []
+behind_word names (says.Servers n) = decimal_text n ∷ []
+behind_word names (says.Chunk n) = decimal_text n ∷ []
+behind_word names (says.Points points) = map decimal_text points
+behind_word names (says.Stage stage) =
+    decimal_text stage.width ∷ decimal_text stage.parities ∷ decimal_text stage.copies ∷ []
+behind_word names (says.File file) = file.name ∷ content_words file.content
+behind_word names says.Phase = []
+behind_word names says.Client = []
+behind_word names (says.Create n) = name_at names n ∷ []
+behind_word names (says.Read n) = name_at names n ∷ []
+behind_word names says.End = []
+
 -- what is written in a line of this form, with one space between each two
 abbrev pub form_words : List (List ℕ) → Form → List (List ℕ)
-form_words names morph_line = codes "morph" ∷ codes "1" ∷ []
-form_words names (servers_line n) = codes "servers" ∷ decimal_text n ∷ []
-form_words names (chunk_line n) = codes "chunk" ∷ decimal_text n ∷ []
-form_words names (points_line points) = codes "points" ∷ map decimal_text points
-form_words names (stage_line k r c) = codes "stage" ∷ decimal_text k ∷ decimal_text r ∷ decimal_text c ∷ []
-form_words names (file_line name matter) = codes "file" ∷ name ∷ matter_words matter
-form_words names phase_line = codes "phase" ∷ []
-form_words names client_line = codes "client" ∷ []
-form_words names (create_line n) = codes "create" ∷ name_at names n ∷ []
-form_words names (read_line n) = codes "read" ∷ name_at names n ∷ []
-form_words names end_line = codes "end" ∷ []
+form_words names form = word_text (first_word form) ∷ behind_word names form
 
 -- a line of this form
 unfoldable pub line_text : List (List ℕ) → Form → List ℕ
@@ -41,36 +71,34 @@ line_text names form = join_with_byte 32 (form_words names form)
 
 -- ---- the forms of a script's lines
 
-abbrev pub stage_form : Stage → Form
-stage_form stage = stage_line stage.width stage.parities stage.copies
-
-abbrev pub file_form : File → Form
-file_form file = file_line file.name file.matter
-
-abbrev pub act_form : Act → Form
-act_form (act.Create file) = create_line file
-act_form (act.Read file) = read_line file
-
+-- of a command
 abbrev pub command_form : Command → Form
 command_form command = act_form command.act
+  where
+    act_form : Act → Form
+    act_form (act.Create file) = says.Create file
+    act_form (act.Read file away) = says.Read file
 
-abbrev pub client_forms : List Command → List Form
-client_forms commands = client_line ∷ map command_form commands
+-- of a client
+abbrev pub client_forms : Client → List Form
+client_forms client = says.Client ∷ map command_form client.commands
 
-abbrev pub phase_forms : List (List Command) → List Form
-phase_forms clients = phase_line ∷ flat_map client_forms clients
+-- of a phase
+abbrev pub item_forms : Item → List Form
+item_forms (item.Phase clients) = says.Phase ∷ flat_map client_forms clients
 
--- the lines of the store
+-- of a family
+abbrev pub block_forms : Block → List Form
+block_forms block = says.Points block.points ∷ map says.Stage block.stages
+
+-- of the store
 abbrev pub store_forms : Script → List Form
-store_forms s = morph_line ∷ servers_line s.servers ∷ chunk_line s.chunk ∷ points_line s.points ∷ map stage_form s.stages
+store_forms s = says.Morph ∷ says.Servers s.servers ∷ says.Chunk s.chunk ∷ flat_map block_forms s.families
 
+-- of the whole script
 unfoldable pub script_forms : Script → List Form
-script_forms s = store_forms s ++ map file_form s.files ++ flat_map phase_forms s.phases ++ end_line ∷ []
-
--- the names of the files
-abbrev pub script_names : Script → List (List ℕ)
-script_names s = map (λ file. file.name) s.files
+script_forms s = store_forms s ++ map says.File s.files ++ flat_map item_forms s.items ++ says.End ∷ []
 
 -- the lines of a script, with an LF between each two
 unfoldable pub script_text : Script → List ℕ
-script_text s = join_with_byte 10 (map (line_text (script_names s)) (script_forms s))
+script_text s = join_with_byte 10 (map (line_text (names_in s.files)) (script_forms s))

@@ -1,27 +1,27 @@
 -- What the code has read, line by line.
-use Rattle.std.specs.Prelude.{◌≡◌, ℕ, ◌+◌, ◌<◌, ◌^◌, Bool, true, false, List, [], length, Option, Some, None, is_some, Result, Ok, Err}
+use Rattle.std.specs.Prelude.{◌≡◌, ℕ, ◌+◌, ◌<◌, ◌^◌}
+use Rattle.std.specs.Prelude.{Bool, true, false, List, length, Option, Some, is_some, Result, Ok, Err}
 use Rattle.mf_script.specs.declared.kinds.LineKind.{LineKind}
 use Rattle.mf_script.specs.declared.kinds.LineKind.TheVariants as kind
 use Rattle.mf_script.specs.declared.kinds.LineFault.{LineFault}
 use Rattle.mf_script.specs.declared.line_words.LineWord.{LineWord}
 use Rattle.mf_script.specs.declared.line_words.LineWord.TheVariants as word
-use Rattle.mf_script.specs.declared.said.Line.{Line}
 use Rattle.mf_script.specs.declared.drafts.Draft.{Draft}
 use Rattle.mf_script.specs.declared.reading.Reader.{Reader}
 use Rattle.mf_script.specs.Contexts.{context}
-use Rattle.mf_script.specs.Forms.{Form, with_line}
-use Rattle.mf_script.specs.Said.{form_said}
+use Rattle.mf_script.specs.declared.forms.Form.{Form}
+use Rattle.mf_script.specs.Contexts.{with_line}
 use Rattle.mf_script.specs.Reading.{form_at}
 use Rattle.mf_script.specs.Meaning.{with_form, script_of}
 use Rattle.mf_script.specs.Drafts.{script_in}
 
 -- a line was read as it is, unless memory ran out
-abbrev pub Says : Result Line LineKind → Result Form LineKind → Type 0
-Says (Ok line) read = read ≡ Ok (form_said line)
+abbrev pub Says : Result Form LineKind → Result Form LineKind → Type 0
+Says (Ok form) read = read ≡ Ok form
 Says (Err kind.Memory) read = Unit {0}
 Says (Err fault) read = read ≡ Err fault
 
--- whether a phase is open behind a line that begins with this word, and whether a client is
+-- whether a phase is open where the last line begins with this word
 abbrev pub in_phase : Option LineWord → Bool
 in_phase (Some word.Phase) = true
 in_phase (Some word.Client) = true
@@ -29,6 +29,7 @@ in_phase (Some word.Create) = true
 in_phase (Some word.Read) = true
 in_phase last = false
 
+-- and whether a client is
 abbrev pub in_client : Option LineWord → Bool
 in_client (Some word.Client) = true
 in_client (Some word.Create) = true
@@ -60,11 +61,13 @@ abbrev pub Refuses : LineKind → Result Form LineKind → Type 0
 Refuses kind.Memory read = Unit {0}
 Refuses fault read = read ≡ Err fault
 
--- the script of these forms was read, or their fault, unless memory ran out
+-- a fault that a text has, unless memory ran out
 abbrev pub IsFaultOf : LineFault → LineKind → Result (List Form) LineFault → Type 0
 IsFaultOf fault kind.Memory read = Unit {0}
 IsFaultOf fault other read = read ≡ Err fault
 
+-- the script of these forms was read, or their fault, unless memory ran out
 abbrev pub Reads : Result Draft LineFault → Result (List Form) LineFault → Type 0
-Reads (Ok draft) read = (forms : List Form) × (read ≡ Ok forms) × (script_in draft ≡ script_of forms) × (is_some draft.phase ≡ false)
+Reads (Ok draft) read =
+    (forms : List Form) × (read ≡ Ok forms) × (script_in draft ≡ script_of forms) × (is_some draft.phase ≡ false)
 Reads (Err fault) read = IsFaultOf fault fault.kind read

@@ -1,5 +1,6 @@
--- A script: a text whose lines have no fault, and what they say.
-use Rattle.std.specs.Prelude.{◌≡◌, ℕ, ◌+◌, nat_lt, if◌then◌else◌, List, [], ◌∷◌, ◌++◌, length, Option, Some, None, Result, Ok, Err, codes}
+-- What a line says behind others; which forms a text's lines have, and which fault.
+use Rattle.std.specs.Prelude.{◌≡◌, ◌<◌, ◌≤◌, ℕ, ◌+◌, ◌⊎◌, if◌then◌else◌}
+use Rattle.std.specs.Prelude.{List, [], ◌∷◌, ◌++◌, length, Option, Some, None, Result, Ok, Err, codes}
 use Rattle.std.specs.Str.{bytes_eq}
 use Rattle.mf_text.specs.Lines.{lines_of, is_clean}
 use Rattle.mf_text.specs.Words.{words_of}
@@ -8,9 +9,10 @@ use Rattle.mf_script.specs.declared.line_words.LineWord.TheVariants as word
 use Rattle.mf_script.specs.declared.kinds.LimitName.TheVariants as limit
 use Rattle.mf_script.specs.declared.kinds.LineKind.{LineKind}
 use Rattle.mf_script.specs.declared.kinds.LineKind.TheVariants as kind
-use Rattle.mf_script.specs.declared.kinds.LineFault.{LineFault}
 use Rattle.mf_script.specs.Spelling.{word_of}
-use Rattle.mf_script.specs.Forms.{Form, morph_line, Context, context_of}
+use Rattle.mf_script.specs.declared.forms.Form.{Form}
+use Rattle.mf_script.specs.declared.forms.Form.TheVariants as says
+use Rattle.mf_script.specs.Forms.{Context, context_of}
 use Rattle.mf_script.specs.Checks.{fault_of}
 use Rattle.mf_script.specs.LineChecks.{word_at, line_checks, form_of}
 
@@ -26,7 +28,7 @@ worded (Some first) so line words = unless (fault_of (line_checks first so line 
 
 -- the first line, or a later one
 abbrev pub placed : Option LineWord → Context → List ℕ → Result Form LineKind
-placed None so line = if bytes_eq line (codes "morph 1") then Ok morph_line else Err kind.Header
+placed None so line = if bytes_eq line (codes "morph 1") then Ok says.Morph else Err kind.Header
 placed (Some last) so line = worded (word_of (word_at (words_of line) 0)) so line (words_of line)
 
 -- what a line says after the lines that add up to so, or its fault
@@ -39,23 +41,45 @@ end_fault None = Some kind.Header
 end_fault (Some word.End) = None
 end_fault (Some last) = Some kind.Order
 
--- the forms so far, or what is wrong with a text that ends behind them
-abbrev pub ended : List Form → Option LineKind → Result (List Form) LineFault
-ended before None = Ok before
-ended before (Some fault) = Err (record { line = length before + 1; kind = fault })
+-- Behind lines of the forms before, these lines make it these forms in all: each line has the form that it has behind
+-- all lines before it.
+abbrev pub MakeForms : List Form → List (List ℕ) → List Form → Type 0
+MakeForms before [] forms = before ≡ forms
+MakeForms before (line ∷ lines) forms =
+    (form : Form) × (form_at (context_of before) line ≡ Ok form) × MakeForms (before ++ form ∷ []) lines forms
 
--- what follows where the next line has a form, or its fault
-abbrev pub after : List Form → Result Form LineKind → (Form → Result (List Form) LineFault) → Result (List Form) LineFault
-after before (Ok form) next = next form
-after before (Err fault) next = Err (record { line = length before + 1; kind = fault })
+-- The text's lines have these forms: it isn't too long, each line has its form, and the last is the end.
+pub record HasForms (text : List ℕ) (forms : List Form) : Type 0 where
+  pub short : length text ≤ 1048576
+  pub lines : MakeForms [] (lines_of text) forms
+  pub ended : (context_of forms).last ≡ Some word.End
 
--- the forms of these lines, which stand behind lines of the forms before, or the fault of the first line that has one
-unfoldable pub forms_from : List Form → List (List ℕ) → Result (List Form) LineFault
-forms_from before [] = ended before (end_fault (context_of before).last)
-forms_from before (line ∷ lines) = after before (form_at (context_of before) line) (λ form. forms_from (before ++ form ∷ []) lines)
+-- the text is too long, which is told at line 0
+pub record IsTooLong (text : List ℕ) (n : ℕ) (fault : LineKind) : Type 0 where
+  pub long : 1048576 < length text
+  pub number : n ≡ 0
+  pub is : fault ≡ kind.Limit limit.Text
 
--- the forms of a text's lines, or its fault; a text that is too long has it before all else
-unfoldable pub forms_of : List ℕ → Result (List Form) LineFault
-forms_of text =
-    if nat_lt 1048576 (length text) then Err (record { line = 0; kind = kind.Limit limit.Text })
-    else forms_from [] (lines_of text)
+-- Line n has this fault, and each line before it has its form.
+pub record IsFirstFault (lines : List (List ℕ)) (n : ℕ) (fault : LineKind) : Type 0 where
+  pub before : List (List ℕ)
+  pub line : List ℕ
+  pub after : List (List ℕ)
+  pub forms : List Form
+  pub split : lines ≡ before ++ line ∷ after
+  pub number : n ≡ length before + 1
+  pub read : MakeForms [] before forms
+  pub is : form_at (context_of forms) line ≡ Err fault
+
+-- Each line has its form, and the text may not end behind the last, which is told at the line behind it.
+pub record EndsEarly (lines : List (List ℕ)) (n : ℕ) (fault : LineKind) : Type 0 where
+  pub forms : List Form
+  pub number : n ≡ length lines + 1
+  pub read : MakeForms [] lines forms
+  pub is : end_fault (context_of forms).last ≡ Some fault
+
+-- the fault of a text's lines
+abbrev pub IsLineFault : List ℕ → ℕ → LineKind → Type 0
+IsLineFault text n fault =
+    IsTooLong text n fault
+    ⊎ ((length text ≤ 1048576) × (IsFirstFault (lines_of text) n fault ⊎ EndsEarly (lines_of text) n fault))

@@ -1,32 +1,46 @@
 -- The words that lines begin with, and those that say how a file's bytes are given.
-use Rattle.std.specs.Prelude.{ℕ, if◌then◌else◌, List, Option, Some, None, codes}
+use Rattle.std.specs.Prelude.{ℕ, List, [], ◌∷◌, Option, codes, find}
 use Rattle.std.specs.Str.{bytes_eq}
 use Rattle.mf_script.specs.declared.line_words.LineWord.{LineWord}
 use Rattle.mf_script.specs.declared.line_words.LineWord.TheVariants as word
 use Rattle.mf_script.specs.declared.line_words.ContentWord.{ContentWord}
 use Rattle.mf_script.specs.declared.line_words.ContentWord.TheVariants as content
 
--- the line word that these bytes are
-unfoldable pub word_of : List ℕ → Option LineWord
-word_of bytes =
-    if bytes_eq bytes (codes "morph") then Some word.Morph
-    else if bytes_eq bytes (codes "servers") then Some word.Servers
-    else if bytes_eq bytes (codes "chunk") then Some word.Chunk
-    else if bytes_eq bytes (codes "points") then Some word.Points
-    else if bytes_eq bytes (codes "stage") then Some word.Stage
-    else if bytes_eq bytes (codes "file") then Some word.File
-    else if bytes_eq bytes (codes "phase") then Some word.Phase
-    else if bytes_eq bytes (codes "client") then Some word.Client
-    else if bytes_eq bytes (codes "create") then Some word.Create
-    else if bytes_eq bytes (codes "read") then Some word.Read
-    else if bytes_eq bytes (codes "end") then Some word.End
-    else None
+-- how a line word is spelled
+abbrev pub word_text : LineWord → List ℕ
+word_text word.Morph = codes "morph"
+word_text word.Servers = codes "servers"
+word_text word.Chunk = codes "chunk"
+word_text word.Points = codes "points"
+word_text word.Stage = codes "stage"
+word_text word.File = codes "file"
+word_text word.Phase = codes "phase"
+word_text word.Client = codes "client"
+word_text word.Create = codes "create"
+word_text word.Read = codes "read"
+word_text word.End = codes "end"
 
--- the content word that these bytes are
+-- all line words
+abbrev pub line_words : List LineWord
+line_words =
+    word.Morph ∷ word.Servers ∷ word.Chunk ∷ word.Points ∷ word.Stage ∷ word.File
+    ∷ word.Phase ∷ word.Client ∷ word.Create ∷ word.Read ∷ word.End ∷ []
+
+-- the line word that these bytes spell
+unfoldable pub word_of : List ℕ → Option LineWord
+word_of bytes = find (λ w. bytes_eq bytes (word_text w)) line_words
+
+-- how a content word is spelled
+abbrev pub content_text : ContentWord → List ℕ
+content_text content.Empty = codes "empty"
+content_text content.Text = codes "text"
+content_text content.Hex = codes "hex"
+content_text content.Pattern = codes "pattern"
+
+-- all content words
+abbrev pub given_words : List ContentWord
+given_words = content.Empty ∷ content.Text ∷ content.Hex ∷ content.Pattern ∷ []
+
+-- the content word that these bytes spell
 unfoldable pub content_word_of : List ℕ → Option ContentWord
-content_word_of bytes =
-    if bytes_eq bytes (codes "empty") then Some content.Empty
-    else if bytes_eq bytes (codes "text") then Some content.Text
-    else if bytes_eq bytes (codes "hex") then Some content.Hex
-    else if bytes_eq bytes (codes "pattern") then Some content.Pattern
-    else None
+content_word_of bytes = find (λ w. bytes_eq bytes (content_text w)) given_words

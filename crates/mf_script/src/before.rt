@@ -1,7 +1,7 @@
 //! What the lines so far add up to.
 
+use crate::forms::Form;
 use crate::line_words::LineWord;
-use crate::said::Line;
 use indexmap::IndexSet;
 use std::alloc::{AllocError, Global};
 
@@ -20,8 +20,7 @@ pub struct Before {
 impl Before {
     ghost use Rattle.std.specs.Prelude.{◌≡◌, ◌<◌, ◌^◌, false, length, [], ◌∷◌, ◌++◌, OnOk};
     ghost use Rattle.mf_script.specs.Contexts.{names_of, context, IsNew};
-    ghost use Rattle.mf_script.specs.Forms.{no_lines, with_line};
-    ghost use Rattle.mf_script.specs.Said.{form_said};
+    ghost use Rattle.mf_script.specs.Contexts.{no_lines, with_line};
     ghost use Rattle.mf_script.specs.LineChecks.{has_name, file_number};
 
     /// Whether a file of this name stands in an earlier line.
@@ -56,9 +55,12 @@ impl Before {
     // Adds a file of a name that no earlier one has.
     fn add_name(&mut self, alloc: Global, name: &[u8]) -> Result<(), AllocError>
         requires { has_name (names_of self.old.names.keys) name.now ≡ false }
-        ensures names { OnOk result (names_of self.new.names.keys ≡ names_of self.old.names.keys ++ name.now ∷ []) }
-        ensures others { OnOk result ((self.new.last ≡ self.old.last) × (self.new.chunk ≡ self.old.chunk) × (self.new.phases ≡ self.old.phases)
-            × (self.new.clients ≡ self.old.clients) × (self.new.commands ≡ self.old.commands)) }
+        ensures names { OnOk result
+            (names_of self.new.names.keys ≡ names_of self.old.names.keys ++ name.now ∷ []) }
+        ensures others { OnOk result
+            ((self.new.last ≡ self.old.last) × (self.new.chunk ≡ self.old.chunk)
+            × (self.new.phases ≡ self.old.phases) × (self.new.clients ≡ self.old.clients)
+            × (self.new.commands ≡ self.old.commands)) }
     {
         let name = Vec::from_slice(alloc, name)?;
         self.names.insert(name)?;
@@ -66,23 +68,24 @@ impl Before {
     }
 
     /// Adds a line.
-    pub fn add(&mut self, alloc: Global, line: &Line) -> Result<(), AllocError>
-        requires counts { (self.old.phases < 2 ^ 31) × (self.old.clients < 2 ^ 31) × (self.old.commands < 2 ^ 31) }
-        requires new { IsNew (context self.old) (form_said line.now) }
-        ensures { OnOk result (context self.new ≡ with_line (context self.old) (form_said line.now)) }
+    pub fn add(&mut self, alloc: Global, form: &Form) -> Result<(), AllocError>
+        requires counts { (self.old.phases < 2 ^ 31) × (self.old.clients < 2 ^ 31)
+            × (self.old.commands < 2 ^ 31) }
+        requires new { IsNew (context self.old) form.now }
+        ensures { OnOk result (context self.new ≡ with_line (context self.old) form.now) }
     {
-        match line {
-            Line::Chunk(size) => self.chunk = *size,
-            Line::File(file) => self.add_name(alloc, &file.name)?,
-            Line::Phase => {
+        match form {
+            Form::Chunk(size) => self.chunk = *size,
+            Form::File(file) => self.add_name(alloc, file.name.as_slice())?,
+            Form::Phase => {
                 self.phases += 1;
                 self.clients = 0;
             }
-            Line::Client => self.clients += 1,
-            Line::Create(_) | Line::Read(_) => self.commands += 1,
+            Form::Client => self.clients += 1,
+            Form::Create(_) | Form::Read(_) => self.commands += 1,
             _ => {}
         }
-        self.last = Some(line.word());
+        self.last = Some(form.word());
         Ok(())
     }
 }

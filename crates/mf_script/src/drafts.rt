@@ -2,25 +2,29 @@
 
 ghost use Rattle.std.specs.Prelude.{◌≡◌, true, is_some, None, OnOk};
 ghost use Rattle.mf_script.specs.Forms.{first_word};
-ghost use Rattle.mf_script.specs.Said.{form_said};
-ghost use Rattle.mf_script.specs.Meaning.{no_script, with_form, with_command};
+ghost use Rattle.mf_script.specs.Meaning.{on_last, no_script, with_form, with_command};
 ghost use Rattle.mf_script.specs.Drafts.{script_in, phase_after, client_after, MayAdd};
 
-use crate::contents::FileLine;
-use crate::said::Line;
-use crate::scripts::{Act, Client, Command, Item};
+use crate::contents::{Bytes, FileLine};
+use crate::forms::Form;
+use crate::scripts::{Act, Client, Clients, Command, Commands, Item};
+use mf_places::Servers;
 use mf_shape::Stage;
 use std::alloc::{AllocError, Global};
 
-/// What the lines so far say. `items` are those that are closed; the open phase has these clients, and behind them
-/// the open client with these commands.
+// The number of the one family, to which every file belongs.
+const FIRST_FAMILY: u32 = 0;
+
+/// What the lines so far say. `file_families` has the number of each file's family. `items` are those that are closed;
+/// the open phase has these clients, and behind them the open client with these commands.
 #[derive(Drop)]
 pub struct Draft {
     pub servers: u32,
     pub chunk: u32,
-    pub points: Vec<u8>,
+    pub points: Bytes,
     pub stages: Vec<Stage>,
     pub files: Vec<FileLine>,
+    pub file_families: Vec<u32>,
     pub items: Vec<Item>,
     pub phase: Option<Vec<Client>>,
     pub client: Option<Vec<Command>>,
@@ -36,9 +40,10 @@ impl Draft {
         Draft {
             servers: 0,
             chunk: 0,
-            points: Vec::new(alloc),
+            points: Bytes::new(Vec::new(alloc)),
             stages: Vec::new(alloc),
             files: Vec::new(alloc),
+            file_families: Vec::new(alloc),
             items: Vec::new(alloc),
             phase: None,
             client: None,
@@ -53,7 +58,9 @@ impl Draft {
     {
         if let Some(commands) = self.client.take() {
             if let Some(mut clients) = self.phase.take() {
-                clients.push(Client { commands })?;
+                clients.push(Client {
+                    commands: Commands::new(commands),
+                })?;
                 self.phase = Some(clients);
             }
         }
@@ -68,7 +75,7 @@ impl Draft {
     {
         self.close_client()?;
         if let Some(clients) = self.phase.take() {
-            self.items.push(Item::Phase(clients))?;
+            self.items.push(Item::Phase(Clients::new(clients)))?;
         }
         Ok(())
     }
@@ -77,7 +84,9 @@ impl Draft {
     fn add_command(&mut self, command: Command) -> Result<(), AllocError>
         requires phase { is_some self.old.phase ≡ true }
         requires client { is_some self.old.client ≡ true }
-        ensures script { OnOk result (script_in self.new ≡ with_command (script_in self.old) command) }
+        ensures script { OnOk result (script_in self.new ≡ record (script_in self.old) {
+          items = on_last (with_command command) (script_in self.old).items;
+        }) }
         ensures phase { OnOk result (is_some self.new.phase ≡ is_some self.old.phase) }
         ensures client { OnOk result (is_some self.new.client ≡ is_some self.old.client) }
     {
@@ -89,36 +98,42 @@ impl Draft {
     }
 
     /// Adds line `n`.
-    pub fn add(&mut self, alloc: Global, n: u32, line: Line) -> Result<(), AllocError>
-        requires { MayAdd self.old (form_said line) }
-        ensures script { OnOk result (script_in self.new ≡ with_form (script_in self.old) n (form_said line)) }
-        ensures phase { OnOk result (is_some self.new.phase ≡ phase_after (is_some self.old.phase) (first_word (form_said line))) }
-        ensures client { OnOk result (is_some self.new.client ≡ client_after (is_some self.old.client) (first_word (form_said line))) }
+    pub fn add(&mut self, alloc: Global, n: u32, form: Form) -> Result<(), AllocError>
+        requires { MayAdd self.old form }
+        ensures script { OnOk result (script_in self.new ≡ with_form (script_in self.old) n form) }
+        ensures phase { OnOk result
+            (is_some self.new.phase ≡ phase_after (is_some self.old.phase) (first_word form)) }
+        ensures client { OnOk result
+            (is_some self.new.client ≡ client_after (is_some self.old.client) (first_word form)) }
     {
-        match line {
-            Line::Morph => {}
-            Line::Servers(servers) => self.servers = servers,
-            Line::Chunk(chunk) => self.chunk = chunk,
-            Line::Points(points) => self.points = points,
-            Line::Stage(stage) => self.stages.push(stage)?,
-            Line::File(file) => self.files.push(file)?,
-            Line::Phase => {
+        match form {
+            Form::Morph => {}
+            Form::Servers(servers) => self.servers = servers,
+            Form::Chunk(chunk) => self.chunk = chunk,
+            Form::Points(points) => self.points = points,
+            Form::Stage(stage) => self.stages.push(stage)?,
+            Form::File(file) => {
+                self.files.push(file)?;
+                self.file_families.push(FIRST_FAMILY)?;
+            }
+            Form::Phase => {
                 self.close_phase()?;
                 self.phase = Some(Vec::new(alloc));
             }
-            Line::Client => {
+            Form::Client => {
                 self.close_client()?;
                 self.client = Some(Vec::new(alloc));
             }
-            Line::Create(file) => self.add_command(Command {
-                line: n,
-                act: Act::Create(file),
-            })?,
-            Line::Read(file) => self.add_command(Command {
-                line: n,
-                act: Act::Read(file),
-            })?,
-            Line::End => self.close_phase()?,
+            Form::Create(file) => {
+                let act = Act::Create(file);
+                self.add_command(Command { line: n, act })?;
+            }
+            Form::Read(file) => {
+                let away = Servers { bits: 0 };
+                let act = Act::Read { file, away };
+                self.add_command(Command { line: n, act })?;
+            }
+            Form::End => self.close_phase()?,
         }
         Ok(())
     }

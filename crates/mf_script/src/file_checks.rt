@@ -1,10 +1,8 @@
 //! What is checked of a file line.
 
 ghost use Rattle.std.specs.Prelude.{◌≡◌, ◌+◌, drop, Some};
-ghost use Rattle.std.specs.List.{list_all};
 ghost use Rattle.mf_script.specs.Contexts.{context};
 ghost use Rattle.mf_script.specs.Views.{views};
-ghost use Rattle.mf_script.specs.Names.{is_name_byte, is_name};
 ghost use Rattle.mf_script.specs.LineChecks.{rest_of, file_limit, content_checks, file_checks};
 
 use crate::before::Before;
@@ -13,8 +11,7 @@ use crate::kinds::LimitName;
 use crate::line_checks::plain_checks;
 use crate::line_words::{ContentWord, LineWord, content_word_of};
 use crate::split::{is_hex_word, is_large, is_number, number_of, word_at};
-
-const MAX_NAME: usize = 32;
+use mf_words::is_name;
 
 const MAX_FILES: usize = 64;
 
@@ -23,27 +20,6 @@ const MAX_START: u64 = 250;
 const MAX_LENGTH: u64 = 1_048_576;
 
 const MAX_CHUNKS: u64 = 1_024;
-
-// Whether a byte may stand in a name.
-fn is_name_byte(b: u8) -> bool
-    ensures { result ≡ is_name_byte b }
-{
-    matches!(b, b'a'..=b'z' | b'0'..=b'9' | b'_' | b'-' | b'.')
-}
-
-// Whether all of these bytes may stand in a name.
-fn are_name_bytes(bytes: &[u8]) -> bool
-    ensures { result ≡ list_all is_name_byte bytes.now }
-{
-    bytes.iter().all(|b| is_name_byte(*b))
-}
-
-/// Whether these bytes are a file's name.
-pub fn is_name(name: &[u8]) -> bool
-    ensures { result ≡ is_name name.now }
-{
-    1 <= name.len() && name.len() <= MAX_NAME && are_name_bytes(name)
-}
 
 // The bytes behind the first n and one more.
 fn behind(bytes: &[u8], n: usize) -> &[u8]
@@ -65,7 +41,8 @@ pub fn rest_of<'a>(line: &'a [u8], words: &[&[u8]]) -> &'a [u8]
     behind(rest, word_at(words, 2).len())
 }
 
-// The first limit that a file passes, whose numbers are large, whose pattern starts too high, and that has so many bytes.
+// The first limit that a file of so many bytes passes; `large` says that one of its numbers is above the greatest u32,
+// and `high` that its pattern starts too high.
 fn file_limit(
     before: &Before,
     name: &[u8],
@@ -91,7 +68,8 @@ fn file_limit(
 
 // A file line with no bytes.
 fn empty_checks(before: &Before, line: &[u8], words: &[&[u8]]) -> Checks
-    ensures { result ≡ content_checks (context before.now) line.now (views words.now) (Some ContentWord.Empty) }
+    ensures { result
+        ≡ content_checks (context before.now) line.now (views words.now) (Some ContentWord.Empty) }
 {
     let name = word_at(words, 1);
     Checks {
@@ -103,7 +81,8 @@ fn empty_checks(before: &Before, line: &[u8], words: &[&[u8]]) -> Checks
 
 // A file line whose bytes are the rest of the line.
 fn text_checks(before: &Before, line: &[u8], words: &[&[u8]]) -> Checks
-    ensures { result ≡ content_checks (context before.now) line.now (views words.now) (Some ContentWord.Text) }
+    ensures { result
+        ≡ content_checks (context before.now) line.now (views words.now) (Some ContentWord.Text) }
 {
     let name = word_at(words, 1);
     let rest = rest_of(line, words);
@@ -117,7 +96,8 @@ fn text_checks(before: &Before, line: &[u8], words: &[&[u8]]) -> Checks
 
 // A file line whose bytes are spelled by a word.
 fn hex_checks(before: &Before, line: &[u8], words: &[&[u8]]) -> Checks
-    ensures { result ≡ content_checks (context before.now) line.now (views words.now) (Some ContentWord.Hex) }
+    ensures { result
+        ≡ content_checks (context before.now) line.now (views words.now) (Some ContentWord.Hex) }
 {
     let name = word_at(words, 1);
     let digits = word_at(words, 3);
@@ -131,7 +111,9 @@ fn hex_checks(before: &Before, line: &[u8], words: &[&[u8]]) -> Checks
 
 // A file line whose bytes are a pattern.
 fn pattern_checks(before: &Before, line: &[u8], words: &[&[u8]]) -> Checks
-    ensures { result ≡ content_checks (context before.now) line.now (views words.now) (Some ContentWord.Pattern) }
+    ensures { result
+        ≡ content_checks (context before.now) line.now (views words.now)
+        (Some ContentWord.Pattern) }
 {
     let name = word_at(words, 1);
     let bytes = word_at(words, 3);

@@ -24,11 +24,11 @@ pub enum LimitName {
 pub enum LineKind {
     /// A byte outside 32 to 126 that is no part of a line's end.
     Text,
-    /// The first line isn't `morph 1`.
+    /// The first line isn't `morph 1`, or there is none.
     Header,
-    /// No line begins with this word, or no content has this name.
+    /// No line begins with this word, no content has this name, or this is a second client of its phase.
     Unknown,
-    /// No line of this kind has so many words, or a text has no byte.
+    /// No line of this kind has so many words, or the bytes of a `text` file are none.
     Arity,
     /// A word in a number's place spells no number, or one in the place of bytes spells none.
     Number,

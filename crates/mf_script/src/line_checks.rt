@@ -1,17 +1,21 @@
 //! What is checked of each kind of line, and of its place.
 
-ghost use Rattle.std.specs.Prelude.{◌≡◌, nat_lt};
-ghost use Rattle.std.specs.List.{list_any};
+ghost use Rattle.std.specs.Prelude.{◌≡◌};
 ghost use Rattle.mf_script.specs.Contexts.{context};
 ghost use Rattle.mf_script.specs.Views.{views};
-ghost use Rattle.mf_script.specs.LineChecks.{may_follow, is_misplaced, plain_checks, number_of, servers_checks, chunk_checks, points_checks, stage_checks, phase_checks, client_checks, command_checks, line_checks};
+ghost use Rattle.mf_script.specs.LineChecks.{may_follow, is_misplaced, plain_checks, line_checks};
+ghost use Rattle.mf_script.specs.LineChecks.{servers_checks, chunk_checks, points_checks};
+ghost use Rattle.mf_script.specs.LineChecks.{stage_checks, phase_checks};
+ghost use Rattle.mf_script.specs.LineChecks.{client_checks, command_checks};
 
 use crate::before::Before;
 use crate::checks::{Checks, first_limit};
 use crate::file_checks::file_checks;
 use crate::kinds::LimitName;
 use crate::line_words::LineWord;
-use crate::split::{any_large, are_numbers, is_large, is_number, number_of, tail, word_at};
+use crate::split::{
+    MAX_NUMBER, any_above, are_numbers, is_large, is_number, number_of, tail, word_at,
+};
 
 const MAX_CHUNK: u64 = 65_536;
 
@@ -95,18 +99,6 @@ fn chunk_checks(before: &Before, words: &[&[u8]]) -> Checks
     }
 }
 
-// Whether a point is above the greatest byte.
-fn any_high(words: &[&[u8]]) -> bool
-    ensures { result ≡ list_any (λ w. nat_lt 255 (number_of w)) (views words.now) }
-{
-    for word in words {
-        if number_of(word) > MAX_POINT {
-            return true;
-        }
-    }
-    false
-}
-
 fn points_checks(before: &Before, words: &[&[u8]]) -> Checks
     ensures { result ≡ points_checks (context before.now) (views words.now) }
 {
@@ -115,8 +107,8 @@ fn points_checks(before: &Before, words: &[&[u8]]) -> Checks
         arity: words.len() < 2,
         number: !are_numbers(points),
         limit: first_limit(&[
-            (any_large(points), LimitName::Number),
-            (any_high(points), LimitName::Point),
+            (any_above(points, MAX_NUMBER), LimitName::Number),
+            (any_above(points, MAX_POINT), LimitName::Point),
             (words.len() > MAX_POINTS + 1, LimitName::Points),
         ]),
         ..plain_checks(before, LineWord::Points, 2, words)
@@ -129,7 +121,7 @@ fn stage_checks(before: &Before, words: &[&[u8]]) -> Checks
     let numbers = tail(words);
     Checks {
         number: !are_numbers(numbers),
-        limit: first_limit(&[(any_large(numbers), LimitName::Number)]),
+        limit: first_limit(&[(any_above(numbers, MAX_NUMBER), LimitName::Number)]),
         ..plain_checks(before, LineWord::Stage, 4, words)
     }
 }

@@ -3,13 +3,16 @@
 ghost use Rattle.std.specs.Prelude.{◌≡◌, ◌∷◌, ◌++◌, [], map, IfOk, OnOk};
 ghost use Rattle.std.specs.List.{flat_map};
 ghost use Rattle.mf_text.specs.Decimal.{decimal_text};
-ghost use Rattle.mf_script.specs.Forms.{servers_line, chunk_line, points_line, file_line};
-ghost use Rattle.mf_script.specs.Drafts.{file_at, clients_of, commands_of};
-ghost use Rattle.mf_script.specs.Said.{matter_said};
-ghost use Rattle.mf_script.specs.Printing.{name_at, line_text, stage_form, file_form, command_form, client_forms, phase_forms, script_text};
-ghost use Rattle.mf_script.specs.Texts.{next_line, lines_text, names_in, script_with};
+ghost use Rattle.mf_script.specs.declared.forms.Form.TheVariants as says;
+ghost use Rattle.mf_script.specs.declared.scripts.Item.TheVariants.{Phase};
+ghost use Rattle.mf_script.specs.Printing.{name_at, line_text, script_text};
+ghost use Rattle.mf_script.specs.Printing.{command_form, client_forms, item_forms, block_forms};
+ghost use Rattle.mf_script.specs.Scripts.{block_of, script_with};
+ghost use Rattle.mf_script.specs.Texts.{next_line, lines_text};
+ghost use Rattle.mf_script.specs.Printing.{names_in};
 
 use crate::contents::{Content, FileLine};
+use crate::families::NamedFamily;
 use crate::scripts::{Act, Client, Command, Item};
 use mf_shape::Stage;
 use mf_text::{push_decimal, push_hex};
@@ -42,7 +45,7 @@ fn push_number(out: &mut Vec<u8>, n: u32) -> Result<(), AllocError>
 // The line of the servers.
 #[tactic(auto, unfolding(crate::specs::Printing::line_text), using(std::proofs::lemmas::List::append_assoc))]
 fn push_servers(out: &mut Vec<u8>, servers: u32) -> Result<(), AllocError>
-    ensures { OnOk result (out.new.items ≡ out.old.items ++ next_line [] (servers_line servers)) }
+    ensures { OnOk result (out.new.items ≡ out.old.items ++ next_line [] (says.Servers servers)) }
 {
     begin(out, b"servers")?;
     push_number(out, servers)
@@ -51,7 +54,7 @@ fn push_servers(out: &mut Vec<u8>, servers: u32) -> Result<(), AllocError>
 // The line of the chunk size.
 #[tactic(auto, unfolding(crate::specs::Printing::line_text), using(std::proofs::lemmas::List::append_assoc))]
 fn push_chunk(out: &mut Vec<u8>, chunk: u32) -> Result<(), AllocError>
-    ensures { OnOk result (out.new.items ≡ out.old.items ++ next_line [] (chunk_line chunk)) }
+    ensures { OnOk result (out.new.items ≡ out.old.items ++ next_line [] (says.Chunk chunk)) }
 {
     begin(out, b"chunk")?;
     push_number(out, chunk)
@@ -59,7 +62,7 @@ fn push_chunk(out: &mut Vec<u8>, chunk: u32) -> Result<(), AllocError>
 
 // The line of the points.
 fn push_points(out: &mut Vec<u8>, points: &[u8]) -> Result<(), AllocError>
-    ensures { OnOk result (out.new.items ≡ out.old.items ++ next_line [] (points_line points.now)) }
+    ensures { OnOk result (out.new.items ≡ out.old.items ++ next_line [] (says.Points points.now)) }
 {
     begin(out, b"points")?;
     for point in points {
@@ -71,7 +74,7 @@ fn push_points(out: &mut Vec<u8>, points: &[u8]) -> Result<(), AllocError>
 // The line of a stage.
 #[tactic(auto, unfolding(crate::specs::Printing::line_text), using(std::proofs::lemmas::List::append_assoc))]
 fn push_stage(out: &mut Vec<u8>, stage: Stage) -> Result<(), AllocError>
-    ensures { OnOk result (out.new.items ≡ out.old.items ++ next_line [] (stage_form stage)) }
+    ensures { OnOk result (out.new.items ≡ out.old.items ++ next_line [] (says.Stage stage)) }
 {
     begin(out, b"stage")?;
     push_number(out, stage.width)?;
@@ -82,19 +85,19 @@ fn push_stage(out: &mut Vec<u8>, stage: Stage) -> Result<(), AllocError>
 // The line of a file.
 #[tactic(auto, unfolding(crate::specs::Printing::line_text), using(std::proofs::lemmas::List::append_assoc))]
 fn push_file(out: &mut Vec<u8>, file: &FileLine) -> Result<(), AllocError>
-    ensures { OnOk result (out.new.items ≡ out.old.items ++ next_line [] (file_form (file_at file.now))) }
+    ensures { OnOk result (out.new.items ≡ out.old.items ++ next_line [] (says.File file.now)) }
 {
     begin(out, b"file")?;
-    push_word(out, &file.name)?;
+    push_word(out, file.name.as_slice())?;
     match &file.content {
         Content::Empty => push_word(out, b"empty"),
         Content::Text(bytes) => {
             push_word(out, b"text")?;
-            push_word(out, bytes)
+            push_word(out, bytes.as_slice())
         }
         Content::Hex(bytes) => {
             push_word(out, b"hex ")?;
-            push_hex(out, bytes)
+            push_hex(out, bytes.as_slice())
         }
         Content::Pattern { length, start } => {
             push_word(out, b"pattern")?;
@@ -117,14 +120,15 @@ fn name_of(files: &[FileLine], file: u32) -> &[u8]
 // The line of a command.
 #[tactic(auto, unfolding(crate::specs::Printing::line_text), using(std::proofs::lemmas::List::append_assoc))]
 fn push_command(out: &mut Vec<u8>, files: &[FileLine], command: Command) -> Result<(), AllocError>
-    ensures { OnOk result (out.new.items ≡ out.old.items ++ next_line (names_in files.now) (command_form command)) }
+    ensures { OnOk result
+        (out.new.items ≡ out.old.items ++ next_line (names_in files.now) (command_form command)) }
 {
     match command.act {
         Act::Create(file) => {
             begin(out, b"create")?;
             push_word(out, name_of(files, file))
         }
-        Act::Read(file) => {
+        Act::Read { file, .. } => {
             begin(out, b"read")?;
             push_word(out, name_of(files, file))
         }
@@ -133,7 +137,8 @@ fn push_command(out: &mut Vec<u8>, files: &[FileLine], command: Command) -> Resu
 
 // The lines of the stages.
 fn push_stages(out: &mut Vec<u8>, stages: &[Stage]) -> Result<(), AllocError>
-    ensures { OnOk result (out.new.items ≡ out.old.items ++ lines_text [] (map stage_form stages.now)) }
+    ensures { OnOk result
+        (out.new.items ≡ out.old.items ++ lines_text [] (map says.Stage stages.now)) }
 {
     for stage in stages {
         push_stage(out, *stage)?;
@@ -141,9 +146,31 @@ fn push_stages(out: &mut Vec<u8>, stages: &[Stage]) -> Result<(), AllocError>
     Ok(())
 }
 
+// The lines of a family.
+fn push_family(out: &mut Vec<u8>, named: &NamedFamily) -> Result<(), AllocError>
+    ensures { OnOk result
+        (out.new.items ≡ out.old.items ++ lines_text [] (block_forms (block_of named.now))) }
+{
+    push_points(out, named.family.points())?;
+    push_stages(out, named.family.shape().stages())
+}
+
+// The lines of the families.
+fn push_families(out: &mut Vec<u8>, families: &[NamedFamily]) -> Result<(), AllocError>
+    ensures { OnOk result
+        (out.new.items ≡ out.old.items
+        ++ lines_text [] (flat_map block_forms (map block_of families.now))) }
+{
+    for named in families {
+        push_family(out, named)?;
+    }
+    Ok(())
+}
+
 // The lines of the files.
 fn push_files(out: &mut Vec<u8>, files: &[FileLine]) -> Result<(), AllocError>
-    ensures { OnOk result (out.new.items ≡ out.old.items ++ lines_text [] (map file_form (map file_at files.now))) }
+    ensures { OnOk result
+        (out.new.items ≡ out.old.items ++ lines_text [] (map says.File files.now)) }
 {
     for file in files {
         push_file(out, file)?;
@@ -153,41 +180,46 @@ fn push_files(out: &mut Vec<u8>, files: &[FileLine]) -> Result<(), AllocError>
 
 // The lines of a client.
 fn push_client(out: &mut Vec<u8>, files: &[FileLine], client: &Client) -> Result<(), AllocError>
-    ensures { OnOk result (out.new.items ≡ out.old.items ++ lines_text (names_in files.now) (client_forms client.now.commands.items)) }
+    ensures { OnOk result
+        (out.new.items ≡ out.old.items
+        ++ lines_text (names_in files.now) (client_forms client.now)) }
 {
     begin(out, b"client")?;
-    for command in &client.commands {
+    for command in client.commands.as_slice() {
         push_command(out, files, *command)?;
-    }
-    Ok(())
-}
-
-// The lines of a phase.
-fn push_phase(out: &mut Vec<u8>, files: &[FileLine], clients: &[Client]) -> Result<(), AllocError>
-    ensures { OnOk result (out.new.items ≡ out.old.items ++ lines_text (names_in files.now) (phase_forms (commands_of clients.now))) }
-{
-    begin(out, b"phase")?;
-    for client in clients {
-        push_client(out, files, client)?;
     }
     Ok(())
 }
 
 // The clients of a phase.
 fn clients_of(item: &Item) -> &[Client]
-    ensures { commands_of result.now ≡ clients_of item.now }
+    ensures { item.now ≡ Phase result.now }
 {
     match item {
         Item::Phase(clients) => clients.as_slice(),
     }
 }
 
+// The lines of an item.
+fn push_item(out: &mut Vec<u8>, files: &[FileLine], item: &Item) -> Result<(), AllocError>
+    ensures { OnOk result
+        (out.new.items ≡ out.old.items ++ lines_text (names_in files.now) (item_forms item.now)) }
+{
+    begin(out, b"phase")?;
+    for client in clients_of(item) {
+        push_client(out, files, client)?;
+    }
+    Ok(())
+}
+
 // The lines of the items.
 fn push_items(out: &mut Vec<u8>, files: &[FileLine], items: &[Item]) -> Result<(), AllocError>
-    ensures { OnOk result (out.new.items ≡ out.old.items ++ lines_text (names_in files.now) (flat_map phase_forms (map clients_of items.now))) }
+    ensures { OnOk result
+        (out.new.items ≡ out.old.items
+        ++ lines_text (names_in files.now) (flat_map item_forms items.now)) }
 {
     for item in items {
-        push_phase(out, files, clients_of(item))?;
+        push_item(out, files, item)?;
     }
     Ok(())
 }
@@ -197,18 +229,18 @@ pub fn print(
     alloc: Global,
     servers: u32,
     chunk: u32,
-    points: &[u8],
-    stages: &[Stage],
+    families: &[NamedFamily],
     files: &[FileLine],
     items: &[Item],
 ) -> Result<Vec<u8>, AllocError>
-    ensures { IfOk result (λ v. v.items ≡ script_text (script_with servers chunk points.now stages.now files.now items.now)) }
+    ensures { IfOk result
+        (λ v. v.items
+        ≡ script_text (script_with servers chunk families.now files.now [] items.now)) }
 {
     let mut out = Vec::from_slice(alloc, b"morph 1")?;
     push_servers(&mut out, servers)?;
     push_chunk(&mut out, chunk)?;
-    push_points(&mut out, points)?;
-    push_stages(&mut out, stages)?;
+    push_families(&mut out, families)?;
     push_files(&mut out, files)?;
     push_items(&mut out, files, items)?;
     begin(&mut out, b"end")?;

@@ -6,15 +6,16 @@ ghost use Rattle.mf_text.specs.Words.{words_of};
 ghost use Rattle.mf_script.specs.Spelling.{word_of};
 ghost use Rattle.mf_script.specs.LineChecks.{word_at};
 ghost use Rattle.mf_script.specs.Contexts.{context};
-ghost use Rattle.mf_script.specs.Reading.{form_at, worded, end_fault, forms_from, forms_of};
+ghost use Rattle.mf_script.specs.Reading.{form_at, worded, end_fault};
+ghost use Rattle.mf_script.specs.Passes.{forms_from, forms_of};
 ghost use Rattle.mf_script.specs.Readers.{Says, Refuses, IsAligned, Adds, Reads};
 
 use crate::before::Before;
 use crate::drafts::Draft;
+use crate::forms::{Form, form_of};
 use crate::kinds::{LimitName, LineFault, LineKind};
 use crate::line_checks::line_checks;
 use crate::line_words::{LineWord, is, word_of};
-use crate::said::{Line, line_of};
 use crate::split::{word_at, words_in};
 use mf_text::first_line;
 use std::alloc::{AllocError, Global};
@@ -31,9 +32,11 @@ fn is_clean(line: &[u8]) -> bool
 }
 
 // What a later line than the first says, or its fault.
-fn later_line(alloc: Global, before: &Before, line: &[u8]) -> Result<Line, LineKind>
+fn later_line(alloc: Global, before: &Before, line: &[u8]) -> Result<Form, LineKind>
     requires { length before.now.names.keys < 2 ^ 32 }
-    ensures { Says result (worded (word_of (word_at (words_of line.now) 0)) (context before.now) line.now (words_of line.now)) }
+    ensures { Says result
+        (worded (word_of (word_at (words_of line.now) 0))
+        (context before.now) line.now (words_of line.now)) }
 {
     let Ok(words) = words_in(alloc, line) else {
         return Err(LineKind::Memory);
@@ -44,15 +47,15 @@ fn later_line(alloc: Global, before: &Before, line: &[u8]) -> Result<Line, LineK
     if let Some(kind) = line_checks(first, before, line, &words).fault() {
         return Err(kind);
     }
-    match line_of(alloc, first, before, line, &words) {
-        Ok(line) => Ok(line),
+    match form_of(alloc, first, before, line, &words) {
+        Ok(form) => Ok(form),
         Err(_) => Err(LineKind::Memory),
     }
 }
 
 // What a line says after those before it, or its fault.
 #[tactic(auto, unfolding(crate::specs::Reading::form_at))]
-fn read_line(alloc: Global, before: &Before, line: &[u8]) -> Result<Line, LineKind>
+fn read_line(alloc: Global, before: &Before, line: &[u8]) -> Result<Form, LineKind>
     requires { length before.now.names.keys < 2 ^ 32 }
     ensures { Says result (form_at (context before.now) line.now) }
 {
@@ -63,7 +66,7 @@ fn read_line(alloc: Global, before: &Before, line: &[u8]) -> Result<Line, LineKi
         return later_line(alloc, before, line);
     }
     if is(line, b"morph 1") {
-        Ok(Line::Morph)
+        Ok(Form::Morph)
     } else {
         Err(LineKind::Header)
     }
@@ -82,14 +85,15 @@ impl Reader {
     fn add(&mut self, alloc: Global, line: &[u8]) -> Result<(), LineKind>
         requires { IsAligned self.old }
         ensures added { OnOk result (Adds self.old self.new line.now) }
-        ensures fault { IfErr result (λ fault. Refuses fault (form_at (context self.old.before) line.now)) }
+        ensures fault { IfErr result
+            (λ fault. Refuses fault (form_at (context self.old.before) line.now)) }
     {
-        let line = read_line(alloc, &self.before, line)?;
+        let form = read_line(alloc, &self.before, line)?;
         self.lines += 1;
-        if self.before.add(alloc, &line).is_err() {
+        if self.before.add(alloc, &form).is_err() {
             return Err(LineKind::Memory);
         }
-        if self.draft.add(alloc, self.lines, line).is_err() {
+        if self.draft.add(alloc, self.lines, form).is_err() {
             return Err(LineKind::Memory);
         }
         Ok(())
@@ -109,7 +113,7 @@ fn end_fault(last: Option<LineWord>) -> Option<LineKind>
 
 // What the lines of a text say.
 fn read_lines(alloc: Global, text: &[u8]) -> Result<Draft, LineFault>
-    requires { length text.now ≤ TEXT_LIMIT }
+    requires { length text.now < 2 ^ 31 }
     ensures { Reads result (forms_from [] (lines_of text.now)) }
 {
     let mut reader = Reader {
@@ -136,7 +140,7 @@ fn read_lines(alloc: Global, text: &[u8]) -> Result<Draft, LineFault>
 }
 
 /// The draft that a text is, or the fault of its first faulty line.
-#[tactic(auto, unfolding(crate::specs::Reading::forms_of))]
+#[tactic(auto, unfolding(crate::specs::Passes::forms_of))]
 pub fn read_draft(alloc: Global, text: &[u8]) -> Result<Draft, LineFault>
     ensures { Reads result (forms_of text.now) }
 {

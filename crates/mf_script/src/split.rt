@@ -5,10 +5,13 @@ ghost use Rattle.std.specs.List.{list_all, list_any};
 ghost use Rattle.mf_text.specs.Words.{words_of};
 ghost use Rattle.mf_text.specs.Hex.{is_hex_digit, is_hex_word};
 ghost use Rattle.mf_script.specs.Views.{views};
-ghost use Rattle.mf_script.specs.LineChecks.{word_at, is_number, number_of, is_large};
+ghost use Rattle.mf_script.specs.LineChecks.{word_at, is_number, number_of, is_above, is_large};
 
 use mf_text::{decimal, split_words};
 use std::alloc::{AllocError, Global};
+
+/// The greatest number of a line; some have smaller limits besides.
+pub const MAX_NUMBER: u64 = 4_294_967_295;
 
 /// The words of a line.
 pub fn words_in<'a>(alloc: Global, line: &'a [u8]) -> Result<Vec<&'a [u8]>, AllocError>
@@ -47,7 +50,7 @@ pub fn number_of(word: &[u8]) -> u64
 pub fn is_large(word: &[u8]) -> bool
     ensures { result ≡ is_large word.now }
 {
-    number_of(word) > 4_294_967_295
+    number_of(word) > MAX_NUMBER
 }
 
 /// Whether each of these words spells a number.
@@ -62,12 +65,12 @@ pub fn are_numbers(words: &[&[u8]]) -> bool
     true
 }
 
-/// Whether one of these words spells a number above the greatest u32.
-pub fn any_large(words: &[&[u8]]) -> bool
-    ensures { result ≡ list_any is_large (views words.now) }
+/// Whether one of these words spells a number above `most`.
+pub fn any_above(words: &[&[u8]], most: u64) -> bool
+    ensures { result ≡ list_any (is_above most) (views words.now) }
 {
     for word in words {
-        if is_large(word) {
+        if number_of(word) > most {
             return true;
         }
     }

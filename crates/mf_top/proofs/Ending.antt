@@ -6,7 +6,7 @@ use Rattle.mf_io.specs.Faults.{HasRisen}
 use Rattle.mf_text.specs.Decimal.{decimal_text}
 use Rattle.mf_words.specs.Lines.{ended}
 use Rattle.mf_words.specs.Refusals.{script_refusal}
-use Rattle.mf_script.specs.FirstForm.{FirstScript, IsFirst}
+use Rattle.mf_first.specs.FirstForm.{FirstScript, IsFirst}
 use Rattle.mf_top.specs.Answers.{IsAnswer}
 use Rattle.mf_top.specs.Ends.{Call, AsksTask, ReadsHeld, IsInput, WritesAnswer, Ends}
 use Rattle.mf_top.specs.declared.Status.{Status}

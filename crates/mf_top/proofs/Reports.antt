@@ -3,6 +3,7 @@ use Rattle.std.proofs.Common.{◌≡◌, ℕ, ◌+◌, ◌≤◌, List, [], ◌+
 use Rattle.std.proofs.Math.Nat.{div-le_self}
 use Rattle.std.specs.Int.{div_ceil}
 use Rattle.sha2.specs.Sha256.{sha256}
+use Rattle.mf_rules.specs.Chunks.{chunk_count}
 use Rattle.mf_words.specs.declared.counts.Io.{Io}
 use Rattle.mf_words.specs.declared.outcomes.Outcome.{Outcome}
 use Rattle.mf_words.specs.declared.outcomes.Outcome.TheVariants.{Created, Bytes}
@@ -11,8 +12,8 @@ use Rattle.mf_words.specs.Places.{place_text}
 use Rattle.mf_words.specs.Outcomes.{outcome_text}
 use Rattle.mf_words.specs.Counts.{io_text, add_io, no_io}
 use Rattle.mf_words.specs.Report.{report_text}
-use Rattle.mf_script.specs.FirstForm.{FirstScript}
-use Rattle.mf_top.specs.FirstRun.{place_of, chunk_count, create_io, read_io, dones_of}
+use Rattle.mf_first.specs.FirstForm.{FirstScript}
+use Rattle.mf_top.specs.FirstRun.{place_of, create_io, read_io, dones_of}
 
 -- one piece more at the end of what was written
 pub pushed : (a b c x y : List ℕ) → b ≡ a ++ x → c ≡ b ++ y → c ≡ a ++ (x ++ y)
@@ -43,9 +44,9 @@ pieces made_name read_name bytes created read total none =
 
 -- they are the report
 pub pieces_text : (s : FirstScript)
-    → pieces s.name s.name (Bytes 0 (length s.text) (chunk_count s) (sha256 s.text)) (create_io s) (read_io s) (add_io (create_io s) (add_io (read_io s) no_io)) no_io
+    → pieces s.name s.name (Bytes 0 (length s.text) (chunk_count s.chunk s.text) (sha256 s.text)) (create_io s) (read_io s) (add_io (create_io s) (add_io (read_io s) no_io)) no_io
     ≡ report_text (dones_of s)
 pieces_text s =
     six_pieces (codes "report 1\n") (done_text 1 (codes "create ") s.name Created (create_io s))
-    (done_text 2 (codes "read ") s.name (Bytes 0 (length s.text) (chunk_count s) (sha256 s.text)) (read_io s))
+    (done_text 2 (codes "read ") s.name (Bytes 0 (length s.text) (chunk_count s.chunk s.text) (sha256 s.text)) (read_io s))
     (ended (codes "total " ++ io_text (add_io (create_io s) (add_io (read_io s) no_io)))) (ended (codes "converts " ++ io_text no_io)) (codes "end\n")

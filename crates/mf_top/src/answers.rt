@@ -6,7 +6,8 @@ ghost use Rattle.mf_top.specs.Given.{Gives};
 
 use crate::Task;
 use crate::report::report_of;
-use mf_script::{FirstFault, Kind, read_first, read_script};
+use mf_first::{FirstFault, read_first};
+use mf_script::{Kind, read_script};
 use mf_verdict::{accepted_line, refused_line};
 use std::alloc::{AllocError, Global};
 
@@ -27,7 +28,8 @@ const TOO_LONG: &[u8] = b"refused line 0 limit text\n";
 
 /// The line that refuses a text of more than 1,048,576 bytes.
 pub fn long_answer(task: Task) -> &'static [u8]
-    ensures { (text : List ℕ) → 1048576 < length text → IsAnswer (task_words task) text 1 result.now }
+    ensures { (text : List ℕ) → 1048576 < length text
+        → IsAnswer (task_words task) text 1 result.now }
 {
     match task {
         Task::Run => NO_SCRIPT,

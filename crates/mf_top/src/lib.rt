@@ -122,7 +122,8 @@ fn end_of<S: Source, K: Sink>(
 
 // What the words ask for.
 fn task_of(words: &[String]) -> Option<Task>
-    ensures { MatchOption result (AsksNothing (map string_bytes words.now)) (λ task. map string_bytes words.now ≡ task_words task) }
+    ensures { MatchOption result (AsksNothing (map string_bytes words.now))
+        (λ task. map string_bytes words.now ≡ task_words task) }
 {
     match words {
         [word] => task_named(word.as_str()),
@@ -132,7 +133,8 @@ fn task_of(words: &[String]) -> Option<Task>
 
 // The task of this name.
 fn task_named(word: &str) -> Option<Task>
-    ensures { MatchOption result (AsksNothing (word.now ∷ [])) (λ task. word.now ∷ [] ≡ task_words task) }
+    ensures { MatchOption result (AsksNothing (word.now ∷ []))
+        (λ task. word.now ∷ [] ≡ task_words task) }
 {
     if word == "run" {
         Some(Task::Run)

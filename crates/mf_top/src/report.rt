@@ -1,8 +1,8 @@
 //! The report of a script of the first form.
 ghost use Rattle.std.specs.Prelude.{◌≡◌, ◌++◌, [], ◌∷◌, IfOk, OnOk, codes};
 ghost use Rattle.sha2.specs.Sha256.{sha256};
-ghost use Rattle.mf_script.specs.FirstForm.{IsAllowed};
-ghost use Rattle.mf_script.specs.First.{script_of};
+ghost use Rattle.mf_first.specs.FirstForm.{IsAllowed};
+ghost use Rattle.mf_first.specs.First.{script_of};
 ghost use Rattle.mf_words.specs.Lines.{ended};
 ghost use Rattle.mf_words.specs.Counts.{io_text};
 ghost use Rattle.mf_words.specs.Places.{place_text};
@@ -10,7 +10,7 @@ ghost use Rattle.mf_words.specs.Outcomes.{outcome_text};
 ghost use Rattle.mf_words.specs.Report.{report_text};
 ghost use Rattle.mf_top.specs.FirstRun.{place_of, dones_of};
 
-use mf_script::First;
+use mf_first::First;
 use mf_words::{Io, Outcome, Place};
 use sha2::{Digest, Sha256};
 use std::alloc::{AllocError, Global};

@@ -13,7 +13,8 @@ tolerance_text stage = spaced (stage.copies + stage.parities)
 
 -- an accepted family: the number of its stages, and the tolerance of each, stage 0 first
 abbrev pub accepted_text : List Stage → List ℕ
-accepted_text stages = ended (codes "family ok stages" ++ spaced (length stages) ++ codes " tolerance" ++ flat_map tolerance_text stages)
+accepted_text stages =
+    ended (codes "family ok stages" ++ spaced (length stages) ++ codes " tolerance" ++ flat_map tolerance_text stages)
 
 -- a refused script: the line of its fault, and what is wrong there
 abbrev pub refused_text : ScriptFault → List ℕ

@@ -2,7 +2,8 @@
 
 ghost use Rattle.std.specs.Prelude.{◌≡◌, ◌++◌, OnOk, codes};
 ghost use Rattle.mf_words.specs.Lines.{spaced};
-ghost use Rattle.mf_verdict.specs.Texts.{limit_text, shape_text, numbers_text, family_text, kind_text};
+ghost use Rattle.mf_verdict.specs.Texts.{limit_text, shape_text, numbers_text};
+ghost use Rattle.mf_verdict.specs.Texts.{family_text, kind_text};
 
 use mf_check::FamilyFault;
 use mf_script::{Kind, LimitName};
@@ -88,7 +89,8 @@ fn push_undecodable(
     kernel: &[u8],
 ) -> Result<(), AllocError>
     ensures { OnOk result (out.new.items ≡ out.old.items ++ (codes "undecodable" ++ spaced stage
-        ++ codes " places" ++ numbers_text places.now ++ codes " kernel" ++ numbers_text kernel.now)) }
+        ++ codes " places" ++ numbers_text places.now
+        ++ codes " kernel" ++ numbers_text kernel.now)) }
 {
     push_word(out, b"undecodable", stage)?;
     out.extend_from_slice(b" places")?;

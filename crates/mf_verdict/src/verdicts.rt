@@ -14,7 +14,8 @@ use std::alloc::{AllocError, Global};
 // The tolerance of each stage behind a space, stage 0 first.
 fn push_tolerances(line: &mut Vec<u8>, shape: &Shape) -> Result<(), AllocError>
     requires { IsShape shape.now }
-    ensures { OnOk result (line.new.items ≡ line.old.items ++ flat_map tolerance_text shape.now.stages) }
+    ensures { OnOk result
+        (line.new.items ≡ line.old.items ++ flat_map tolerance_text shape.now.stages) }
 {
     for g in 0..shape.stages().len() {
         push_number(line, shape.tolerance(g as u32) as u64)?;

@@ -1,12 +1,7 @@
-use Rattle.std.proofs.Common.{◌≡◌, ◌++◌, ◌∷◌, [], map, take}
-use Rattle.std.specs.Prelude.{codes}
-use Rattle.std.specs.List.{flat_map}
-use Rattle.mf_script.specs.Drafts.{file_at, clients_of, commands_of}
-use Rattle.mf_script.specs.Forms.{client_line, phase_line}
-use Rattle.mf_script.specs.Printing.{stage_form, file_form, command_form, client_forms, phase_forms}
-use Rattle.mf_script.specs.Texts.{next_line, lines_text, names_in}
-use Rattle.mf_script.proofs.TextLemmas.{spaced}
+use Rattle.std.proofs.Common.{◌≡◌, ◌++◌, [], map, take}
+use Rattle.mf_script.specs.declared.forms.Form.TheVariants as says
+use Rattle.mf_script.specs.Texts.{lines_text}
 use Rattle.mf_script.proofs.printing.push_stages.Given as goal
 
 abbrev pub invariant-loop-stage : goal.invariant-loop-stage
-invariant-loop-stage l = l.out.items ≡ l.fn.out.items ++ lines_text [] (map stage_form (take l.stage-index l.stages))
+invariant-loop-stage l = l.out.items ≡ l.fn.out.items ++ lines_text [] (map says.Stage (take l.stage-index l.stages))

@@ -1,5 +1,5 @@
-use Rattle.std.proofs.Common.{◌≡◌, ◌∙◌, sym, refl, length, arith}
-use Rattle.std.proofs.lemmas.Bool.{eqb-true, eqb-false}
+use Rattle.std.proofs.Common.{◌∙◌, sym, refl, length}
+use Rattle.std.proofs.lemmas.Bool.{eqb-true}
 use Rattle.mf_script.proofs.ReadingLemmas.{Reading-start, Reading-aligned, Reading-next, Reading-refused, Reading-done, Reading-ended}
 use Rattle.mf_script.proofs.reading.read_lines.Goals as goal
 

@@ -8,8 +8,7 @@ use Rattle.mf_top.proofs.answers.check_answer.Goals as goal
 
 pub returns-in_ok-accepted_line-in-Ok : goal.returns-in_ok-accepted_line-in-Ok
 returns-in_ok-accepted_line-in-Ok c =
-    let read = c.in-Ok.ensures.script in
-    accepted_read c.args.text.now c.in_ok-accepted_line-in-Ok.field-0.items c.in-Ok.script read.0 read.1
+    accepted_read c.args.text.now c.in_ok-accepted_line-in-Ok.field-0.items c.in-Ok.script c.in-Ok.ensures.script
     (c.in_ok-accepted_line-in-Ok.ensures
     ∙ ap (λ (shape : Chain). accepted_text shape.stages) (c.shape.ensures.value ∙ ap (λ (family : Code). family.shape) c.family.ensures))
 

@@ -1,6 +1,6 @@
 use Rattle.std.proofs.Common.{refl, sym, subst, ◌∙◌, codes}
-use Rattle.mf_script.specs.FirstForm.{FirstScript, IsFirst}
-use Rattle.mf_script.specs.First.{script_of}
+use Rattle.mf_first.specs.FirstForm.{FirstScript, IsFirst}
+use Rattle.mf_first.specs.First.{script_of}
 use Rattle.mf_top.specs.declared.Task.TheVariants.{Run}
 use Rattle.mf_top.specs.Answers.{task_words, IsAnswer, reported, no_script}
 use Rattle.mf_top.proofs.Ending.{whole_refusal}

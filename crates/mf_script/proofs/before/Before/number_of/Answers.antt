@@ -1,4 +1,4 @@
-use Rattle.std.proofs.Common.{◌≡◌, ◌∙◌, sym, map}
+use Rattle.std.proofs.Common.{◌∙◌, sym}
 use Rattle.std.specs.Str.{bytes_eq}
 use Rattle.mf_script.proofs.ListLemmas.{position_or_len-map, position_or}
 use Rattle.mf_script.proofs.before.Before.number_of.Goals as goal

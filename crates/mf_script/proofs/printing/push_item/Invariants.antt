@@ -1,0 +1,9 @@
+use Rattle.std.proofs.Common.{◌≡◌, ◌++◌, take}
+use Rattle.mf_script.specs.declared.scripts.Item.TheVariants as item
+use Rattle.mf_script.specs.Printing.{item_forms}
+use Rattle.mf_script.specs.Texts.{lines_text}
+use Rattle.mf_script.specs.Printing.{names_in}
+use Rattle.mf_script.proofs.printing.push_item.Given as goal
+
+abbrev pub invariant-loop-client : goal.invariant-loop-client
+invariant-loop-client l = l.out.items ≡ l.fn.out.items ++ lines_text (names_in l.files) (item_forms (item.Phase (take l.client-index l.client-items)))

@@ -1,0 +1,39 @@
+-- A script: what contracts see of one, and which text is one.
+use Rattle.std.specs.Prelude.{◌≡◌, ℕ, List, map}
+use Rattle.std.specs.List.{All}
+use Rattle.mf_check.specs.Families.{IsCode}
+use Rattle.mf_script.specs.declared.contents.FileLine.{FileLine}
+use Rattle.mf_script.specs.declared.scripts.Item.{Item}
+use Rattle.mf_script.specs.declared.families.NamedFamily.{NamedFamily}
+use Rattle.mf_script.specs.declared.forms.Form.{Form}
+use Rattle.mf_script.specs.Meaning.{Block, Script, script_of, code_of}
+use Rattle.mf_script.specs.Reading.{HasForms}
+
+-- what is said of a family
+abbrev pub block_of : NamedFamily → Block
+block_of named = record { name = named.name; points = named.family.points; stages = named.family.shape.stages }
+
+-- what a script says whose parts are these
+abbrev pub script_with : ℕ → ℕ → List NamedFamily → List FileLine → List ℕ → List Item → Script
+script_with servers chunk families files file_families items =
+    record {
+      servers = servers;
+      chunk = chunk;
+      families = map block_of families;
+      files = files;
+      file_families = file_families;
+      items = items;
+    }
+
+-- The text is this script: no line has a fault, the script is what the lines say, and each of its families is accepted.
+pub record IsScript (text : List ℕ) (s : Script) : Type 0 where
+  pub forms : List Form
+  pub lines : HasForms text forms
+  pub says : s ≡ script_of forms
+  pub families : All (λ block. IsCode (code_of s block)) s.families
+
+-- what every script keeps: some text is this script, and its families are over its servers
+pub record IsKept (families : List NamedFamily) (s : Script) : Type 0 where
+  pub text : List ℕ
+  pub is : IsScript text s
+  pub over : All (λ (named : NamedFamily). named.family.shape.servers ≡ s.servers) families

@@ -1,20 +1,26 @@
 //! Morph: a block file store whose redundancy changes over a file's life. The program reads a script from standard
-//! input, runs it, and writes the report to standard output.
+//! input, runs it or checks its family of codes, and writes the report or the line of the check to standard output.
 #![tactic(auto)]
 
 use mf_io::{StdSink, StdSource};
 use mf_top::morph;
-use std::io;
+use std::alloc::AllocError;
+use std::io::ErrorKind;
 use std::process::ExitCode;
 use std::rt::Env;
 
 /// The status for want of memory.
 const NO_MEMORY: u8 = 5;
 
-/// The words after the program's name.
-fn words_of(rt: &(impl Env + AllocGlobal)) -> io::Result<Vec<String>> {
+/// The words after the program's name; none where one of them isn't UTF-8, since the program has no such word.
+fn words_of(rt: &(impl Env + AllocGlobal)) -> Result<Vec<String>, AllocError> {
     let mut words = Vec::new(rt.alloc());
-    for word in std::env::args(rt)?.skip(1) {
+    let args = match std::env::args(rt) {
+        Ok(args) => args,
+        Err(error) if error.kind() == ErrorKind::OutOfMemory => return Err(AllocError),
+        Err(_) => return Ok(words),
+    };
+    for word in args.skip(1) {
         words.push(word)?;
     }
     Ok(words)

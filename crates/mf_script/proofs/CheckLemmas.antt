@@ -1,5 +1,5 @@
 -- What holds of a line without a fault.
-use Rattle.std.proofs.Common.{◌≡◌, ℕ, zero, suc, ◌<◌, ◌≤◌, Bool, true, false, cond, eqb, ltb, List, [], ◌∷◌, length, get_or, drop, Option, Some, None, refl, subst, arith, Bor}
+use Rattle.std.proofs.Common.{◌≡◌, ℕ, zero, suc, ◌<◌, ◌≤◌, Bool, true, false, cond, eqb, ltb, List, [], ◌∷◌, length, get_or, drop, Option, Some, None, refl, subst, arith, Bor, Ok}
 use Rattle.std.proofs.lemmas.List.{get_or-map, length-map}
 use Rattle.std.specs.List.{list_any}
 use Rattle.std.proofs.lemmas.Bool.{ltb-false, eqb-true, not-false, or_parts}
@@ -14,6 +14,7 @@ use Rattle.mf_text.specs.Hex.{is_hex_word}
 use Rattle.mf_script.specs.Forms.{Context}
 use Rattle.mf_script.specs.Views.{views}
 use Rattle.mf_script.specs.Checks.{limit_or, fault_of}
+use Rattle.mf_script.specs.Reading.{unless}
 use Rattle.mf_script.specs.LineChecks.{word_at, number_of, is_above, is_large, servers_checks, chunk_checks, points_checks, stage_checks, content_checks, line_checks}
 
 some_or : {A : Type 0} (b : Bool) (x : A) (r : Option A) → cond b (Some x) r ≡ None → (b ≡ false) × (r ≡ None)
@@ -81,12 +82,13 @@ pattern_small kind so line ws is e =
 pub hex_fine : (kind : ContentWord) (so : Context) (line : List ℕ) (ws : List (List ℕ)) → kind ≡ content.Hex → fault_of (content_checks so line ws (Some kind)) ≡ None → is_hex_word (word_at ws 3) ≡ true
 hex_fine kind so line ws is e = not-false (is_hex_word (word_at ws 3)) (NoFault-from (content_checks so line ws (Some content.Hex)) (rw is at e)).number
 
--- a file line without a fault has a content word, and its content has no fault
-pub has_content : (kind : Option ContentWord) (so : Context) (line : List ℕ) (ws : List (List ℕ)) → kind ≡ None → fault_of (content_checks so line ws kind) ≡ None → ⊥
-has_content kind so line ws is e = let some = (NoFault-from (content_checks so line ws None) (rw is at e)).arity in cc
-
 pub point_small : (ws : List (Bor (List ℕ))) (i : ℕ) (w : Bor (List ℕ)) → list_any (is_above 255) (views ws) ≡ false → i < length ws → number_of (get_or ws i w).now ≤ 255
 point_small ws i w e lt =
     let here : get_or (views ws) i [] ≡ (get_or ws i w).now = get_or-map (λ (x : Bor (List ℕ)). x.now) ws i w [] lt in
     let long = length-map ws (λ (x : Bor (List ℕ)). x.now) in
     ltb-false 255 (number_of (get_or ws i w).now) (subst (λ v. ltb 255 (number_of v) ≡ false) here (none_at (is_above 255) (views ws) i [] e (omega arith)))
+
+-- a line that has a form has no fault
+pub unless_ok : {A : Type 0} (fault : Option LineKind) (x y : A) → unless fault x ≡ Ok y → (fault ≡ None) × (x ≡ y)
+unless_ok None x y e = (refl, cc)
+unless_ok (Some fault) x y e = absurd cc

@@ -28,10 +28,10 @@ use Rattle.mf_script.specs.Reading.{worded, placed, form_at}
 use Rattle.mf_script.specs.Meaning.{Block, Script, on_last, with_points, with_stage, with_client, client_with, with_command, create_at, read_at, with_form, no_block, no_script}
 use Rattle.mf_script.specs.Printing.{command_form, client_forms, item_forms, block_forms, store_forms, script_forms, content_words, line_text}
 use Rattle.mf_script.proofs.ContextLemmas.{flat_push}
-use Rattle.mf_script.proofs.CheckLemmas.{NoFault, NoFault-from}
+use Rattle.mf_script.proofs.CheckLemmas.{NoFault, NoFault-from, unless_ok}
 use Rattle.mf_script.proofs.DraftLemmas.{on_last-push}
 use Rattle.mf_script.proofs.OrderLemmas.{Stands, last_is}
-use Rattle.mf_script.proofs.SpellingLemmas.{name_is, unless_ok}
+use Rattle.mf_script.proofs.SpellingLemmas.{name_is}
 
 -- ---- one more at the end
 

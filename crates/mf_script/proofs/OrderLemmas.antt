@@ -9,7 +9,6 @@ use Rattle.mf_script.specs.declared.line_words.LineWord.{LineWord}
 use Rattle.mf_script.specs.declared.line_words.LineWord.TheVariants as word
 use Rattle.mf_script.specs.declared.line_words.ContentWord.{ContentWord}
 use Rattle.mf_script.specs.declared.line_words.ContentWord.TheVariants as content
-use Rattle.mf_script.specs.declared.kinds.LineKind.{LineKind}
 use Rattle.mf_script.specs.declared.drafts.Draft.{Draft}
 use Rattle.mf_script.specs.Spelling.{word_of, content_word_of}
 use Rattle.mf_script.specs.declared.forms.Form.{Form}
@@ -18,11 +17,11 @@ use Rattle.mf_script.specs.Forms.{first_word, Context}
 use Rattle.mf_script.specs.Contexts.{with_line}
 use Rattle.mf_script.specs.Checks.{fault_of}
 use Rattle.mf_script.specs.LineChecks.{word_at, may_follow, is_misplaced, has_name, content_checks, line_checks, form_of}
-use Rattle.mf_script.specs.Reading.{unless, worded, placed, form_at}
+use Rattle.mf_script.specs.Reading.{worded, placed, form_at}
 use Rattle.mf_script.specs.Contexts.{IsNew}
 use Rattle.mf_script.specs.Drafts.{phase_after, client_after, MayAdd}
 use Rattle.mf_script.specs.Readers.{in_phase, in_client}
-use Rattle.mf_script.proofs.CheckLemmas.{NoFault, NoFault-from}
+use Rattle.mf_script.proofs.CheckLemmas.{NoFault, NoFault-from, unless_ok}
 
 -- where a line may stand: first, or behind a line that it may follow
 pub record Stands (so : Context) (form : Form) : Type 0 where
@@ -81,10 +80,6 @@ form_new word.Client so line ws fine = tt
 form_new word.Create so line ws fine = tt
 form_new word.Read so line ws fine = tt
 form_new word.End so line ws fine = tt
-
-unless_ok : {A : Type 0} (fault : Option LineKind) (x y : A) → unless fault x ≡ Ok y → (fault ≡ None) × (x ≡ y)
-unless_ok None x y e = (refl, cc)
-unless_ok (Some fault) x y e = absurd cc
 
 worded_stands : (first : Option LineWord) (last : LineWord) (so : Context) (line : List ℕ) (ws : List (List ℕ)) (form : Form) → so.last ≡ Some last → worded first so line ws ≡ Ok form → Stands so form
 worded_stands None last so line ws form was e = absurd cc

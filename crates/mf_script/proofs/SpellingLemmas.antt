@@ -17,16 +17,15 @@ use Rattle.mf_script.specs.declared.line_words.LineWord.{LineWord}
 use Rattle.mf_script.specs.declared.line_words.LineWord.TheVariants as word
 use Rattle.mf_script.specs.declared.line_words.ContentWord.{ContentWord}
 use Rattle.mf_script.specs.declared.line_words.ContentWord.TheVariants as content
-use Rattle.mf_script.specs.declared.kinds.LineKind.{LineKind}
 use Rattle.mf_script.specs.Spelling.{word_text, line_words, word_of, content_text, given_words, content_word_of}
 use Rattle.mf_script.specs.declared.forms.Form.{Form}
 use Rattle.mf_script.specs.declared.forms.Form.TheVariants as says
 use Rattle.mf_script.specs.Forms.{Context}
 use Rattle.mf_script.specs.Checks.{fault_of}
 use Rattle.mf_script.specs.LineChecks.{word_at, is_number, number_of, rest_of, has_name, file_number, content_checks, line_checks, content_of, form_of, is_misplaced, may_follow}
-use Rattle.mf_script.specs.Reading.{unless, worded, placed, form_at}
+use Rattle.mf_script.specs.Reading.{worded, placed, form_at}
 use Rattle.mf_script.specs.Printing.{content_words, name_at, form_words, line_text}
-use Rattle.mf_script.proofs.CheckLemmas.{NoFault, NoFault-from}
+use Rattle.mf_script.proofs.CheckLemmas.{NoFault, NoFault-from, unless_ok}
 
 -- ---- words
 
@@ -196,10 +195,6 @@ spelled word.Create so line ws j w fine =
 spelled word.Read so line ws j w fine =
     sym j ∙ ap (join_with_byte 32) (command_spelled so ws (codes "read") (eqb-true (length ws) 2 (not-false (eqb (length ws) 2) fine.arity)) w (not-false (has_name so.names (word_at ws 1)) fine.no_file))
 spelled word.End so line ws j w fine = sym j ∙ ap (join_with_byte 32) (one_word ws (eqb-true (length ws) 1 (not-false (eqb (length ws) 1) fine.arity)) ∙ (λ i. w i ∷ []))
-
-pub unless_ok : {A : Type 0} (fault : Option LineKind) (x y : A) → unless fault x ≡ Ok y → (fault ≡ None) × (x ≡ y)
-unless_ok None x y e = (refl, cc)
-unless_ok (Some fault) x y e = absurd cc
 
 worded_spelled : (first : Option LineWord) (so : Context) (line : List ℕ) (form : Form) → word_of (word_at (words_of line) 0) ≡ first → worded first so line (words_of line) ≡ Ok form → line ≡ join_with_byte 32 (form_words so.names form)
 worded_spelled None so line form w e = absurd cc

@@ -3,7 +3,7 @@ use Rattle.std.proofs.Common.{◌≡◌, ℕ, ◌+◌, ◌<◌, List, [], ◌∷
 use Rattle.std.specs.Prelude.{codes, Result, Ok, Err, OnOk}
 use Rattle.std.specs.List.{flat_map, join_with_byte}
 use Rattle.std.proofs.lemmas.Grind.{flat_map-append}
-use Rattle.std.proofs.lemmas.List.{append_assoc, append-nil, map_more, map_push, take_more}
+use Rattle.std.proofs.lemmas.List.{append_assoc, append-nil, map_more, take_more}
 use Rattle.mf_text.specs.Decimal.{decimal_text}
 use Rattle.mf_shape.specs.declared.Stage.{Stage}
 use Rattle.mf_script.specs.declared.contents.FileLine.{FileLine}
@@ -34,14 +34,6 @@ pub join_spaced : (word : List ℕ) (ns : List ℕ) → join_with_byte 32 (word 
 join_spaced word [] = sym (append-nil word)
 join_spaced word (n ∷ ns) = ap (λ r. word ++ 32 ∷ r) (join_spaced (decimal_text n) ns)
 
-pub points_more : (old out : List ℕ) (points : List ℕ) (i : ℕ) → i < length points → out ≡ old ++ 10 ∷ (codes "points" ++ flat_map spaced (take i points)) → out ++ spaced (get_or points i 0) ≡ old ++ 10 ∷ (codes "points" ++ flat_map spaced (take (i + 1) points))
-points_more old out points i lt so =
-    let front = flat_map spaced (take i points) in
-    ap (λ o. o ++ spaced (get_or points i 0)) so
-    ∙ append_assoc old (10 ∷ (codes "points" ++ flat_map spaced (take i points))) (spaced (get_or points i 0))
-    ∙ ap (λ r. old ++ 10 ∷ r) (append_assoc (codes "points") (flat_map spaced (take i points)) (spaced (get_or points i 0))
-    ∙ ap (λ r. codes "points" ++ r) (ap (λ r. flat_map spaced (take i points) ++ r) (sym (append-nil (spaced (get_or points i 0)))) ∙ sym (flat_map-append spaced (take i points) (get_or points i 0 ∷ [])) ∙ ap (flat_map spaced) (sym (take_more points i 0 lt))))
-
 pub points_end : (points : List ℕ) → 10 ∷ (codes "points" ++ flat_map spaced points) ≡ next_line [] (says.Points points)
 unfolding line_text
 points_end points = ap (λ r. 10 ∷ r) (sym (join_spaced (codes "points") points))
@@ -59,20 +51,6 @@ lines_text-one names form = append-nil (next_line names form)
 pub lines_text-nil : (names : List (List ℕ)) → lines_text names [] ≡ []
 unfolding lines_text
 lines_text-nil names = refl
-
--- one element more, whose lines are added
-pub more_lines : {X : Type 0} (names : List (List ℕ)) (f : X → List Form) (old out piece : List ℕ) (xs : List X) (x : X) → out ≡ old ++ lines_text names (flat_map f xs) → piece ≡ lines_text names (f x) → out ++ piece ≡ old ++ lines_text names (flat_map f (xs ++ x ∷ []))
-more_lines names f old out piece xs x so is =
-    (λ i. so i ++ is i)
-    ∙ append_assoc old (lines_text names (flat_map f xs)) (lines_text names (f x))
-    ∙ ap (λ r. old ++ r) (sym (lines_text-append names (flat_map f xs) (f x)) ∙ ap (lines_text names) (ap (λ r. flat_map f xs ++ r) (sym (append-nil (f x))) ∙ sym (flat_map-append f xs (x ∷ []))))
-
--- the same where each element has one line
-pub more_line : {X : Type 0} (names : List (List ℕ)) (f : X → Form) (old out : List ℕ) (xs : List X) (x : X) → out ≡ old ++ lines_text names (map f xs) → out ++ next_line names (f x) ≡ old ++ lines_text names (map f (xs ++ x ∷ []))
-more_line names f old out xs x so =
-    ap (λ o. o ++ next_line names (f x)) so
-    ∙ append_assoc old (lines_text names (map f xs)) (next_line names (f x))
-    ∙ ap (λ r. old ++ r) (ap (λ r. lines_text names (map f xs) ++ r) (sym (lines_text-one names (f x))) ∙ sym (lines_text-append names (map f xs) (f x ∷ [])) ∙ ap (lines_text names) (sym (map_push f xs x)))
 
 -- ---- the whole text
 

@@ -1,7 +1,7 @@
 -- How a call ends, from what it read and wrote.
-use Rattle.std.proofs.Common.{◌≡◌, ℕ, ◌+◌, ◌<◌, ◌≤◌, ◌⊎◌, inl, inr, List, [], ◌++◌, length, take, Option, None, Some, IfSome, sym, ap, subst, refl, ◌∙◌, arith, append-nil, length-append, codes, lit<}
+use Rattle.std.proofs.Common.{◌≡◌, ℕ, ◌+◌, ◌<◌, ◌≤◌, ◌⊎◌, inl, inr, List, [], ◌++◌, length, take, Option, None, Some, IfSome, sym, ap, subst, refl, arith, length-append, codes, lit<}
 use Rattle.std.proofs.lemmas.Fmt.{decimal_digit}
-use Rattle.std.specs.Io.KnownBytes.{Keeps, Appends, Consumes, IsAtEnd}
+use Rattle.std.specs.Io.KnownBytes.{Keeps, Appends, Consumes}
 use Rattle.mf_io.specs.Faults.{HasRisen}
 use Rattle.mf_text.specs.Decimal.{decimal_text}
 use Rattle.mf_words.specs.Lines.{ended}
@@ -32,12 +32,6 @@ ends_written c whole result status text bytes input answer reads side make (inr 
 pub some_input : (left : Option (List ℕ)) → (text : List ℕ) × IfSome left (λ bytes. text ≡ bytes)
 some_input None = ([], tt)
 some_input (Some bytes) = (bytes, refl)
-
--- what was read to the end is what was left
-pub whole_input : (left now : Option (List ℕ)) (text : List ℕ) → Consumes left now text → IsAtEnd now → IfSome left (λ bytes. text ≡ bytes)
-whole_input None now text e z = tt
-whole_input (Some x) None text e z = absurd e
-whole_input (Some x) (Some y) text e z = sym (e ∙ ap (λ l. text ++ l) z ∙ append-nil text)
 
 -- a text of which more than the limit was read is longer than the limit
 pub long_input : (left now : Option (List ℕ)) (limit : ℕ) (read : List ℕ) → Consumes left now read → length read ≡ limit + 1

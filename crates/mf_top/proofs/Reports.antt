@@ -1,7 +1,5 @@
 -- How the report is put together.
-use Rattle.std.proofs.Common.{◌≡◌, ℕ, ◌+◌, ◌≤◌, List, [], ◌++◌, length, ap, ◌∙◌, append_assoc, append-nil, arith, codes}
-use Rattle.std.proofs.Math.Nat.{div-le_self}
-use Rattle.std.specs.Int.{div_ceil}
+use Rattle.std.proofs.Common.{◌≡◌, ℕ, ◌+◌, List, [], ◌++◌, length, ap, ◌∙◌, append_assoc, append-nil, codes}
 use Rattle.sha2.specs.Sha256.{sha256}
 use Rattle.mf_rules.specs.Chunks.{chunk_count}
 use Rattle.mf_words.specs.declared.counts.Io.{Io}
@@ -22,10 +20,6 @@ pushed a b c x y first second = second ∙ ap (λ l. l ++ y) first ∙ append_as
 -- six pieces, from the left and from the right
 six_pieces : (a b c d e f : List ℕ) → a ++ b ++ c ++ d ++ e ++ f ≡ a ++ (b ++ (c ++ (d ++ (e ++ (f ++ [])))))
 six_pieces a b c d e f = simp (append_assoc, append-nil)
-
--- rounding up a quotient passes the number by one at most
-pub div_ceil-le_succ : (x y : ℕ) → div_ceil x y ≤ x + 1
-div_ceil-le_succ x y = omega (arith, div-le_self x y)
 
 -- so many data reads, and so many writes with a probe each
 abbrev pub io_made : ℕ → ℕ → Io

@@ -3,7 +3,7 @@ use Rattle.std.proofs.Common.{◌≡◌, ◌≢◌, ℕ, suc, ◌+◌, ◌-◌, 
 use Rattle.std.proofs.lemmas.Bool.{cases_lt}
 use Rattle.std.proofs.lemmas.Bool.Decides.{eqb_tells}
 use Rattle.std.proofs.lemmas.List.{take_at, drop_at, get_or_append_left, get_or-append-add, drop_more, drop_all, get_or-map}
-use Rattle.mf_rules.specs.Decodable.{IsPlaceSet}
+use Rattle.mf_code.specs.Decodable.{IsPlaceSet}
 use Rattle.mf_erasure.specs.Erasure.{entry, others_from, places_of, Splits}
 use Rattle.mf_erasure.proofs.Places.{erasure_of_set, length-places_of}
 use Rattle.mf_matrix.specs.Matrix.{Grid}

@@ -3,10 +3,10 @@
 use Rattle.std.proofs.Common.{◌≡◌, ℕ, ◌+◌, ◌-◌, ◌<◌, ◌≤◌, inl, inr, List, [], ◌∷◌, length, map, get_or, sym, ap, subst, ◌∙◌, arith}
 use Rattle.std.proofs.lemmas.List.{length-map, get_or-map}
 use Rattle.std.proofs.lemmas.Bool.{cases_eq}
-use Rattle.mf_rules.specs.Field.{times, power}
-use Rattle.mf_rules.specs.Sums.{sum_below}
-use Rattle.mf_rules.specs.Decodable.{IsPlaceSet, IsDecodableAt}
-use Rattle.mf_rules.proofs.Sums.{sum_below-same, sum_below-lt}
+use Rattle.mf_code.specs.Field.{times, power}
+use Rattle.mf_code.specs.Sums.{sum_below}
+use Rattle.mf_code.specs.Decodable.{IsPlaceSet, IsDecodableAt}
+use Rattle.mf_code.proofs.Sums.{sum_below-same, sum_below-lt}
 use Rattle.mf_field.proofs.FieldLaws.{times-lt, times_assoc, times-eq-zero}
 use Rattle.mf_field.proofs.Powers.{power-add, power-lt, power-pos}
 use Rattle.mf_field.proofs.SumLaws.{times_sum}

@@ -5,7 +5,7 @@ use Rattle.std.proofs.lemmas.Bool.{cases_lt}
 use Rattle.mf_shape.specs.declared.Stage.{Stage}
 use Rattle.mf_shape.specs.Stages.{width_at, parities_at}
 use Rattle.mf_shape.specs.Chain.{IsChain}
-use Rattle.mf_rules.specs.Decodable.{IsPlaceSet}
+use Rattle.mf_code.specs.Decodable.{IsPlaceSet}
 use Rattle.mf_check.specs.Sets.{StageAnswer}
 use Rattle.mf_check.specs.Families.{stage_points, IsStageDecodable, ArePoints}
 use Rattle.mf_check.specs.Faults.{IsUndecodable}

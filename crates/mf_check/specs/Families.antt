@@ -3,7 +3,7 @@ use Rattle.std.specs.Prelude.{ℕ, ◌≡◌, ◌≢◌, ◌<◌, List, length, 
 use Rattle.mf_shape.specs.declared.Stage.{Stage}
 use Rattle.mf_shape.specs.Stages.{width_at, parities_at}
 use Rattle.mf_shape.specs.Chain.{Chain, IsShape}
-use Rattle.mf_rules.specs.Decodable.{IsDecodable}
+use Rattle.mf_code.specs.Decodable.{IsDecodable}
 
 -- What contracts see of a family: its shape, and its points.
 pub record Code : Type 0 where

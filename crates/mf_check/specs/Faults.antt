@@ -2,7 +2,7 @@
 use Rattle.std.specs.Prelude.{ℕ, ◌≡◌, ◌≢◌, ◌+◌, ◌-◌, ◌^◌, ◌<◌, ◌⊎◌, min, List, length, slice_index}
 use Rattle.mf_shape.specs.declared.Stage.{Stage}
 use Rattle.mf_shape.specs.Stages.{width_at, parities_at}
-use Rattle.mf_rules.specs.Decodable.{IsPlaceSet, IsDecodableAt}
+use Rattle.mf_code.specs.Decodable.{IsPlaceSet, IsDecodableAt}
 use Rattle.mf_check.specs.declared.FamilyFault.{FamilyFault}
 use Rattle.mf_check.specs.declared.FamilyFault.TheVariants.{PointCount, PointZero, PointTwice, Undecodable, Memory}
 use Rattle.mf_check.specs.Sets.{IsBefore, IsKernelOfSet}

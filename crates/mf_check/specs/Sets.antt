@@ -3,7 +3,7 @@ use Rattle.std.specs.Prelude.{ℕ, ◌≡◌, ◌+◌, ◌<◌, ◌≤◌, Optio
 use Rattle.std.specs.List.Sorted.{IsStrictlyIncreasing}
 use Rattle.std.specs.Prelude.{Vec}
 use Rattle.std.specs.Global.{Global}
-use Rattle.mf_rules.specs.Decodable.{IsPlaceSet, IsDecodableAt, IsDecodable}
+use Rattle.mf_code.specs.Decodable.{IsPlaceSet, IsDecodableAt, IsDecodable}
 use Rattle.mf_erasure.specs.Erasure.{Splits, entry}
 use Rattle.mf_matrix.specs.Tables.{IsKernel}
 

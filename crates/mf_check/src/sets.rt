@@ -2,9 +2,9 @@
 ghost use Rattle.std.specs.Prelude.{◌≡◌, ◌≢◌, ℕ, ◌+◌, ◌-◌, ◌*◌, ◌^◌, ◌<◌, ◌≤◌, ◌++◌};
 ghost use Rattle.std.specs.Prelude.{length, map, drop, slice_index, OnOk, IfOk};
 ghost use Rattle.std.specs.Bool.{OnTrue, OnFalse};
-ghost use Rattle.mf_rules.specs.Field.{power};
-ghost use Rattle.mf_rules.specs.Rows.{list_of};
-ghost use Rattle.mf_rules.specs.Decodable.{IsPlaceSet};
+ghost use Rattle.mf_code.specs.Field.{power};
+ghost use Rattle.mf_code.specs.Rows.{list_of};
+ghost use Rattle.mf_code.specs.Decodable.{IsPlaceSet};
 ghost use Rattle.mf_erasure.specs.Erasure.{entry, others_from};
 ghost use Rattle.mf_check.specs.Sets.{SetAnswer, IsDataFront};
 

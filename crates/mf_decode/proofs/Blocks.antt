@@ -8,10 +8,10 @@ use Rattle.std.proofs.lemmas.Bool.{cases_lt}
 use borrow.Rule.Slice.PartMut.{put_mid, post_of}
 use Rattle.std.proofs.lemmas.Simd.{get_or-zip2}
 use lib.Lanes.{zip2}
-use Rattle.mf_rules.specs.Field.{times}
-use Rattle.mf_rules.specs.Sums.{sum_below}
-use Rattle.mf_rules.specs.Rows.{column}
-use Rattle.mf_rules.proofs.Sums.{sum_below-none, sum_below-more}
+use Rattle.mf_code.specs.Field.{times}
+use Rattle.mf_code.specs.Sums.{sum_below}
+use Rattle.mf_code.specs.Rows.{column}
+use Rattle.mf_code.proofs.Sums.{sum_below-none, sum_below-more}
 use Rattle.mf_decode.specs.Decoding.{column_of}
 use Rattle.mf_decode.specs.Columns.{there}
 

@@ -6,10 +6,10 @@ use Rattle.std.specs.Int.Bits.{xor_zero_r}
 use Rattle.std.proofs.lemmas.Nat.{xor_comm}
 use Rattle.std.proofs.lemmas.List.{length-map, get_or-map, get_or-take, get_or-drop}
 use Rattle.std.proofs.Math.Nat.{mul-le-mul_right}
-use Rattle.mf_rules.specs.Field.{times, power}
-use Rattle.mf_rules.specs.Sums.{sum_below}
-use Rattle.mf_rules.specs.Rows.{column}
-use Rattle.mf_rules.proofs.Sums.{sum_below-same}
+use Rattle.mf_code.specs.Field.{times, power}
+use Rattle.mf_code.specs.Sums.{sum_below}
+use Rattle.mf_code.specs.Rows.{column}
+use Rattle.mf_code.proofs.Sums.{sum_below-same}
 use Rattle.mf_matrix.specs.Tables.{GivesIdentity}
 use Rattle.mf_erasure.specs.Erasure.{entry}
 use Rattle.mf_erasure.proofs.Bridge.{byte_at}

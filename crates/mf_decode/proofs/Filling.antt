@@ -5,9 +5,9 @@ use Rattle.std.specs.Option.{option_map}
 use Rattle.std.specs.Int.Bits.{xor_assoc}
 use Rattle.std.proofs.lemmas.Nat.{xor_comm}
 use Rattle.std.proofs.lemmas.List.Recursion.{is_count_by}
-use Rattle.mf_rules.specs.Field.{times, power}
-use Rattle.mf_rules.specs.Sums.{sum_below, weighted}
-use Rattle.mf_rules.proofs.Sums.{sum_below-first, sum_below-same, sum_below-none}
+use Rattle.mf_code.specs.Field.{times, power}
+use Rattle.mf_code.specs.Sums.{sum_below, weighted}
+use Rattle.mf_code.proofs.Sums.{sum_below-first, sum_below-same, sum_below-none}
 use Rattle.mf_field.proofs.FieldLaws.{times-zero}
 use Rattle.mf_decode.specs.Decoding.{gaps_from, filled}
 use Rattle.mf_decode.specs.Columns.{there}

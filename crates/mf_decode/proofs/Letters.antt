@@ -1,10 +1,10 @@
 -- The answers of the tests' stripe agree with its data list.
 use Rattle.std.proofs.Common.{◌≡◌, ℕ, ◌<◌, List, [], ◌∷◌, length, get_or, replicate, refl, sym, ap, ◌∙◌, arith}
 use Rattle.std.proofs.lemmas.List.{length-replicate, get_or-replicate}
-use Rattle.mf_rules.specs.Field.{times, power, carryless, remainder}
-use Rattle.mf_rules.specs.Sums.{sum_below, weighted}
-use Rattle.mf_rules.specs.Rows.{column}
-use Rattle.mf_rules.proofs.Lists.{list_of_from}
+use Rattle.mf_code.specs.Field.{times, power, carryless, remainder}
+use Rattle.mf_code.specs.Sums.{sum_below, weighted}
+use Rattle.mf_code.specs.Rows.{column}
+use Rattle.mf_code.proofs.Lists.{list_of_from}
 use Rattle.mf_decode.specs.Stripes.{IsParity, parity_of}
 use Rattle.mf_decode.specs.Letters.{letters, stripe_of_letters}
 

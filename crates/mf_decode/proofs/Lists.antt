@@ -5,10 +5,10 @@ use Rattle.std.specs.Option.{option_map}
 use Rattle.std.proofs.lemmas.List.{length-map, get_or-map, ext_get_or, get_or_default, get_or_append_left, get_or_push}
 use Rattle.std.proofs.lemmas.Bool.{cases_lt}
 use Rattle.std.proofs.lemmas.Option.{slice_get-map, slice_get_within, get_or_from_slice_get}
-use Rattle.mf_rules.specs.Sums.{weighted}
-use Rattle.mf_rules.specs.Rows.{column}
-use Rattle.mf_rules.proofs.Lists.{list_of_at, list_of_from}
-use Rattle.mf_rules.specs.Decodable.{IsData}
+use Rattle.mf_code.specs.Sums.{weighted}
+use Rattle.mf_code.specs.Rows.{column}
+use Rattle.mf_code.proofs.Lists.{list_of_at, list_of_from}
+use Rattle.mf_code.specs.Decodable.{IsData}
 use Rattle.mf_erasure.proofs.Bridge.{byte_at}
 use Rattle.mf_decode.specs.Stripes.{IsChunk, IsDataList, parity_of}
 use Rattle.mf_decode.specs.Decoding.{Plan, points_of, gaps_from, filled, column_of, Agrees, AgreesInColumn, IsDecodedAt}

@@ -1,8 +1,8 @@
 -- Stripes with one parity by the point 1 bear the loss of any one place.
 use Rattle.std.proofs.Common.{◌≡◌, ℕ, List, [], ◌∷◌, length, get_or, sym, ap, ◌∙◌, arith}
-use Rattle.mf_rules.specs.Field.{times, power}
-use Rattle.mf_rules.specs.Sums.{sum_below}
-use Rattle.mf_rules.specs.Decodable.{IsDecodable}
+use Rattle.mf_code.specs.Field.{times, power}
+use Rattle.mf_code.specs.Sums.{sum_below}
+use Rattle.mf_code.specs.Decodable.{IsDecodable}
 use Rattle.mf_field.proofs.FieldLaws.{one-times}
 use Rattle.mf_field.proofs.Powers.{power_of_one}
 use Rattle.mf_field.proofs.SumLaws.{sum_below-one}

@@ -7,11 +7,11 @@ use Rattle.std.proofs.lemmas.Bool.{eq-eqb}
 use Rattle.std.proofs.lemmas.Bool.Decides.{eqb_tells}
 use Rattle.std.proofs.lemmas.List.{length-map, get_or-map, get_or_default, ext_get_or}
 use Rattle.std.proofs.lemmas.Option.{get_or_from_slice_get}
-use Rattle.mf_rules.specs.Field.{times, power}
-use Rattle.mf_rules.specs.Sums.{sum_below, weighted}
-use Rattle.mf_rules.specs.Rows.{list_of}
-use Rattle.mf_rules.proofs.Sums.{sum_below-same, sum_below-lt, sum_below_xor}
-use Rattle.mf_rules.proofs.Lists.{length-list_of, list_of_at}
+use Rattle.mf_code.specs.Field.{times, power}
+use Rattle.mf_code.specs.Sums.{sum_below, weighted}
+use Rattle.mf_code.specs.Rows.{list_of}
+use Rattle.mf_code.proofs.Sums.{sum_below-same, sum_below-lt, sum_below_xor}
+use Rattle.mf_code.proofs.Lists.{length-list_of, list_of_at}
 use Rattle.mf_field.proofs.FieldLaws.{zero-times, one-times, times_assoc, times_add, times-lt}
 use Rattle.mf_field.proofs.Powers.{power-lt}
 use Rattle.mf_field.proofs.SumLaws.{times_sum, sum_times, sum_below_swap, sum_below-single}

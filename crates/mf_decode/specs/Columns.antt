@@ -1,7 +1,7 @@
 -- How one byte is decoded.
 use Rattle.std.specs.Prelude.{ℕ, List, length, map, slice_index, Option, unwrap_or}
-use Rattle.mf_rules.specs.Field.{times, power}
-use Rattle.mf_rules.specs.Sums.{sum_below}
+use Rattle.mf_code.specs.Field.{times, power}
+use Rattle.mf_code.specs.Sums.{sum_below}
 
 -- The bytes that are there, and 0 for the others.
 abbrev pub there : List (Option ℕ) → List ℕ

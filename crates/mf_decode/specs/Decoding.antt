@@ -3,9 +3,9 @@ use Rattle.std.specs.Prelude.{ℕ, ◌≡◌, ◌+◌, List, [], ◌∷◌, leng
 use Rattle.std.specs.Option.{option_map}
 use Rattle.std.specs.declared.vec.Vec.{Vec}
 use Rattle.std.specs.declared.alloc.Global.{Global}
-use Rattle.mf_rules.specs.Sums.{weighted}
-use Rattle.mf_rules.specs.Rows.{column}
-use Rattle.mf_rules.specs.Decodable.{IsData}
+use Rattle.mf_code.specs.Sums.{weighted}
+use Rattle.mf_code.specs.Rows.{column}
+use Rattle.mf_code.specs.Decodable.{IsData}
 use Rattle.mf_decode.specs.Stripes.{IsDataList, parity_of}
 
 -- A plan: of stripes of this width with these points, the places of the erased data, and the numbers of the parities

@@ -1,6 +1,6 @@
 -- A stripe: its data chunks and its parities.
 use Rattle.std.specs.Prelude.{ℕ, ◌≡◌, ◌<◌, List, Option, Some, length, slice_index, slice_get, All, IfSome}
-use Rattle.mf_rules.specs.Rows.{weighted_lists}
+use Rattle.mf_code.specs.Rows.{weighted_lists}
 
 -- What answers are given from: chunks of `size` bytes, `count` pieces of data, and a parity for each of the points.
 -- `pieces` is the data list with which the answers agree, where there is one.

@@ -1,9 +1,9 @@
 //! Decoding by a plan: the one data list that agrees with what was handed in.
 ghost use Rattle.std.specs.Prelude.{◌≡◌, ℕ, ◌+◌, ◌^◌, ◌<◌, ◌≤◌, List, [], Some, length};
 ghost use Rattle.std.specs.Prelude.{slice_index, slice_get, bit_xor, All, IfOk, IfSome};
-ghost use Rattle.mf_rules.specs.Field.{times};
-ghost use Rattle.mf_rules.specs.Sums.{sum_below};
-ghost use Rattle.mf_rules.specs.Rows.{column};
+ghost use Rattle.mf_code.specs.Field.{times};
+ghost use Rattle.mf_code.specs.Sums.{sum_below};
+ghost use Rattle.mf_code.specs.Rows.{column};
 ghost use Rattle.mf_decode.specs.Stripes.{IsChunk};
 ghost use Rattle.mf_decode.specs.Decoding.{Agrees, IsDecodedAt, gaps_from, filled, rows, column_of};
 ghost use Rattle.mf_decode.specs.Columns.{there, weight_of};

@@ -1,7 +1,7 @@
 //! Gathering: the data of a stripe from what can be had of it.
 ghost use Rattle.std.specs.Prelude.{◌≡◌, ℕ, ◌^◌, ◌<◌, ◌≤◌, ◌++◌, List, [], None};
 ghost use Rattle.std.specs.Prelude.{length, slice_index_or, All, IfOk, IfSome};
-ghost use Rattle.mf_rules.specs.Decodable.{IsDecodable};
+ghost use Rattle.mf_code.specs.Decodable.{IsDecodable};
 ghost use Rattle.mf_erasure.specs.Erasure.{IsErasure};
 ghost use Rattle.mf_decode.specs.declared.pieces.Asked.{Asked};
 ghost use Rattle.mf_decode.specs.Stripes.{IsDataList};

@@ -1,8 +1,8 @@
 //! Plans: which data of a stripe is erased, which parities are had in its stead, and the inverse that leads back.
 ghost use Rattle.std.specs.Prelude.{◌≡◌, ℕ, ◌<◌, ◌≤◌, ◌++◌, length, map, slice_index};
 ghost use Rattle.std.specs.Prelude.{OnOk, IfOk, IfErr};
-ghost use Rattle.mf_rules.specs.Field.{power};
-ghost use Rattle.mf_rules.specs.Rows.{list_of};
+ghost use Rattle.mf_code.specs.Field.{power};
+ghost use Rattle.mf_code.specs.Rows.{list_of};
 ghost use Rattle.mf_matrix.specs.Matrix.{entry as cell_at};
 ghost use Rattle.mf_matrix.specs.Tables.{HasInverse};
 ghost use Rattle.mf_erasure.specs.Erasure.{entry, IsErasure};

@@ -10,12 +10,12 @@ use Rattle.std.proofs.lemmas.List.Kept.{AllPairs-from_increasing}
 use Rattle.std.proofs.lemmas.List.{get_or_default, get_or_past, get_or_append_left, get_or-append_right, get_or-map}
 use Rattle.std.proofs.Math.ListN.{length-append, length-map}
 use Rattle.std.proofs.lemmas.Nat.{xor_lt}
-use Rattle.mf_rules.specs.Field.{times, power}
-use Rattle.mf_rules.specs.Sums.{sum_below, weighted}
-use Rattle.mf_rules.specs.Rows.{list_of}
-use Rattle.mf_rules.specs.Decodable.{word, IsData, AgreeOutside, IsDecodableAt}
-use Rattle.mf_rules.proofs.Sums.{sum_below-same, sum_below-zero, sum_below_xor}
-use Rattle.mf_rules.proofs.Lists.{length-list_of, list_of_at, list_of_from}
+use Rattle.mf_code.specs.Field.{times, power}
+use Rattle.mf_code.specs.Sums.{sum_below, weighted}
+use Rattle.mf_code.specs.Rows.{list_of}
+use Rattle.mf_code.specs.Decodable.{word, IsData, AgreeOutside, IsDecodableAt}
+use Rattle.mf_code.proofs.Sums.{sum_below-same, sum_below-zero, sum_below_xor}
+use Rattle.mf_code.proofs.Lists.{length-list_of, list_of_at, list_of_from}
 use Rattle.mf_field.proofs.FieldLaws.{times_add, times-zero}
 use Rattle.mf_erasure.specs.Erasure.{entry, OnlyZero, Splits}
 use Rattle.mf_erasure.proofs.Spread.{at_place, at_place-zero, spread, sum_spread, spread-other, spread-lost, spread-lt}

@@ -3,9 +3,9 @@ use Rattle.std.proofs.Common.{◌≡◌, ◌≢◌, ℕ, zero, suc, ◌<◌, ◌
 use mathlib.Core.Logic.{dite}
 use native.Mathlib.Decide.{ℕ_discrete}
 use Rattle.std.specs.Prelude.{bit_xor, if◌then◌else◌}
-use Rattle.mf_rules.specs.Field.{times}
-use Rattle.mf_rules.specs.Sums.{sum_below}
-use Rattle.mf_rules.proofs.Sums.{sum_below-same, sum_below-zero, sum_below_xor, sum_below-lt}
+use Rattle.mf_code.specs.Field.{times}
+use Rattle.mf_code.specs.Sums.{sum_below}
+use Rattle.mf_code.proofs.Sums.{sum_below-same, sum_below-zero, sum_below_xor, sum_below-lt}
 use Rattle.mf_field.proofs.SumLaws.{sum_below-single}
 use Rattle.mf_field.proofs.FieldLaws.{times_add, times-zero}
 

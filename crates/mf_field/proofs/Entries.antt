@@ -1,7 +1,7 @@
 -- The tables' rule, tested once by a walk along each table, and what it says of each entry.
 use Rattle.std.proofs.Common.{◌≡◌, ℕ, zero, suc, ◌+◌, ◌-◌, ◌<◌, Bool, true, ◌&&◌, ◌==◌, nat_lt, List, [], ◌∷◌, length, get_or, take, drop, get_or-take, get_or-drop, refl, sym, ap, ◌∙◌, subst, arith, eqb-true, ltb-true, add-zero}
 use Rattle.std.proofs.lemmas.Bool.{and_parts}
-use Rattle.mf_rules.specs.Field.{carryless, remainder, times, power}
+use Rattle.mf_code.specs.Field.{carryless, remainder, times, power}
 use Rattle.mf_field.specs.declared.tables.TheConstants.{POWERS, EXPONENTS}
 
 -- the list goes on from x by doubling

@@ -1,7 +1,7 @@
 -- The field laws of the product of bytes. Sums are exclusive ors, whose laws are std's.
 use Rattle.std.proofs.Common.{◌≡◌, ℕ, zero, suc, ◌+◌, ◌-◌, ◌^◌, ◌<◌, ◌⊎◌, bit_xor, Bool, true, ◌&&◌, ◌==◌, nat_lt, refl, sym, ap, ◌∙◌, subst, arith, inl, inr, eqb-true, ltb-true}
 use Rattle.std.proofs.lemmas.Bool.{and_parts, cases_lt, cases_eq}
-use Rattle.mf_rules.specs.Field.{carryless, remainder, times}
+use Rattle.mf_code.specs.Field.{carryless, remainder, times}
 use Rattle.mf_field.proofs.Linear.{Linear-zero, Linear-after, Linear-same, Linear-lt, times-xor, xor-times}
 
 -- ---- tests of every number below a bound, which are computed

@@ -1,6 +1,6 @@
 -- The powers of 2 come again after 255.
 use Rattle.std.proofs.Common.{◌≡◌, ℕ, zero, suc, ◌+◌, ◌-◌, ◌*◌, ◌/◌, ◌%◌, ◌<◌, ◌⊎◌, inl, inr, refl, sym, ap, ap₂, ◌∙◌, arith, div-add-mod', mul_comm}
-use Rattle.mf_rules.specs.Field.{carryless, remainder, times, power}
+use Rattle.mf_code.specs.Field.{carryless, remainder, times, power}
 use Rattle.mf_field.proofs.FieldLaws.{times-zero, zero-times, one-times}
 use Rattle.mf_field.proofs.Powers.{power-lt, power-add, power-mul, power_of_one}
 

@@ -4,7 +4,7 @@ use Rattle.std.specs.Int.{bit_at}
 use Rattle.std.specs.Int.Bits.{xor_assoc, xor_zero_r, xor_self, xor_shifted}
 use Rattle.std.proofs.lemmas.Nat.{xor_comm, xor_lt, xor_block}
 use Rattle.std.proofs.lemmas.Nat.Bits.{bit_at_xor, bit_at-lt}
-use Rattle.mf_rules.specs.Field.{carryless, remainder, times}
+use Rattle.mf_code.specs.Field.{carryless, remainder, times}
 
 -- ---- exclusive or
 

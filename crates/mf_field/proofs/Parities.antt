@@ -3,11 +3,11 @@
 use Rattle.std.proofs.Common.{◌≡◌, ℕ, ◌+◌, ◌-◌, ◌*◌, ◌/◌, ◌%◌, ◌<◌, ◌≤◌, min, List, length, get_or, sym, ap, ◌∙◌, subst, arith, inl, inr, add-mul, add_assoc, mul_assoc, mul-le-mul_right, div-add-mod', mod-lt}
 use Rattle.std.proofs.lemmas.Bool.{cases_lt, cases_eq}
 use Rattle.std.proofs.lemmas.List.{get_or_past}
-use Rattle.mf_rules.specs.Field.{times, power}
-use Rattle.mf_rules.specs.Sums.{sum_below}
-use Rattle.mf_rules.specs.Chunks.{chunk, chunk_count, parity_byte}
-use Rattle.mf_rules.proofs.Sums.{sum_below-same, sum_below-zero, sum_below-lt}
-use Rattle.mf_rules.proofs.Lists.{length-chunk, chunk_at, parity_byte_by_place}
+use Rattle.mf_code.specs.Field.{times, power}
+use Rattle.mf_code.specs.Sums.{sum_below}
+use Rattle.mf_code.specs.Chunks.{chunk, chunk_count, parity_byte}
+use Rattle.mf_code.proofs.Sums.{sum_below-same, sum_below-zero, sum_below-lt}
+use Rattle.mf_code.proofs.Lists.{length-chunk, chunk_at, parity_byte_by_place}
 use Rattle.mf_field.proofs.FieldLaws.{times-zero, times-lt}
 use Rattle.mf_field.proofs.Powers.{power-lt}
 use Rattle.mf_field.proofs.SumLaws.{merging, sum_below-front}

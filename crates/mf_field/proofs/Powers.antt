@@ -1,6 +1,6 @@
 -- The laws of powers.
 use Rattle.std.proofs.Common.{◌≡◌, ℕ, zero, suc, ◌+◌, ◌*◌, ◌<◌, refl, sym, ap, ◌∙◌, arith, add-zero, add-suc, mul-suc, mul-zero}
-use Rattle.mf_rules.specs.Field.{times, power}
+use Rattle.mf_code.specs.Field.{times, power}
 use Rattle.mf_field.proofs.FieldLaws.{times-lt, times_comm, times_assoc, times-one, one-times, times-pos, times_swap}
 
 pub power-zero : (a : ℕ) → power a 0 ≡ 1

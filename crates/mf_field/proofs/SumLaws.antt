@@ -4,9 +4,9 @@ use Rattle.std.specs.Int.Bits.{xor_zero_r}
 use Rattle.std.proofs.lemmas.Bool.{cases_eq}
 use Rattle.std.proofs.lemmas.List.{get_or_past}
 use Rattle.std.proofs.lemmas.Nat.{mul-add-lt}
-use Rattle.mf_rules.specs.Field.{times, power}
-use Rattle.mf_rules.specs.Sums.{sum_below, weighted}
-use Rattle.mf_rules.proofs.Sums.{sum_below-same, sum_below-zero, sum_below-add, sum_below_xor}
+use Rattle.mf_code.specs.Field.{times, power}
+use Rattle.mf_code.specs.Sums.{sum_below, weighted}
+use Rattle.mf_code.proofs.Sums.{sum_below-same, sum_below-zero, sum_below-add, sum_below_xor}
 use Rattle.mf_field.proofs.FieldLaws.{times_add, add_times, times-zero, zero-times, times_assoc}
 use Rattle.mf_field.proofs.Powers.{power-lt, power-add}
 

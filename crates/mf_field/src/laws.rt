@@ -2,8 +2,8 @@
 //! nothing and tells the caller the law. `times` and `power` are what `mul` and `pow` answer, and `bit_xor` is what `add`
 //! answers.
 ghost use Rattle.std.specs.Prelude.{◌≡◌, ◌⊎◌, ℕ, ◌+◌, ◌*◌, ◌<◌, ◌≤◌, bit_xor, length, slice_index};
-ghost use Rattle.mf_rules.specs.Field.{times, power};
-ghost use Rattle.mf_rules.specs.Sums.{sum_below, weighted};
+ghost use Rattle.mf_code.specs.Field.{times, power};
+ghost use Rattle.mf_code.specs.Sums.{sum_below, weighted};
 ghost use Rattle.mf_field.specs.Unique.{OneBelow};
 
 /// The order of two terms is free.

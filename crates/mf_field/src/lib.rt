@@ -3,7 +3,7 @@
 #![tactic(auto)]
 
 ghost use Rattle.std.specs.Prelude.{◌≡◌, ◌↔◌, bit_xor, IsNone, IfSome};
-ghost use Rattle.mf_rules.specs.Field.{times, power};
+ghost use Rattle.mf_code.specs.Field.{times, power};
 
 pub mod laws;
 mod tables;

@@ -1,6 +1,6 @@
 //! Powers of 2 and their exponents. 2 has 255 powers, which are all bytes but 0.
 ghost use Rattle.std.specs.Prelude.{◌≡◌, ◌<◌};
-ghost use Rattle.mf_rules.specs.Field.{power};
+ghost use Rattle.mf_code.specs.Field.{power};
 
 /// Entry e is the power of 2 with exponent e. The powers come again after 255 entries, so that a sum of two exponents
 /// below 255 is in range.

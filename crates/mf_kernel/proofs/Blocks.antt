@@ -3,10 +3,10 @@ use Rattle.std.proofs.Common.{◌≡◌, ℕ, ◌+◌, ◌-◌, ◌*◌, ◌<◌
 use Rattle.std.specs.Int.{div_ceil}
 use Rattle.std.proofs.lemmas.List.{length-map, length-take, length-drop, length-replicate, get_or-map, get_or-take, get_or-drop, get_or-replicate}
 use Rattle.std.proofs.lemmas.Simd.{length-zip2, get_or-zip2}
-use Rattle.mf_rules.specs.Field.{times}
-use Rattle.mf_rules.specs.Rows.{column, added_scaled}
-use Rattle.mf_rules.specs.Sums.{sum_below}
-use Rattle.mf_rules.proofs.Sums.{sum_below-none, sum_below-more}
+use Rattle.mf_code.specs.Field.{times}
+use Rattle.mf_code.specs.Rows.{column, added_scaled}
+use Rattle.mf_code.specs.Sums.{sum_below}
+use Rattle.mf_code.proofs.Sums.{sum_below-none, sum_below-more}
 
 pub length-column : (x : ℕ) (pieces : List (List ℕ)) → length (column x pieces) ≡ length pieces
 length-column x pieces = length-map pieces (λ (xs : List ℕ). get_or xs x 0)

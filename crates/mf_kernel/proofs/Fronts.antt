@@ -2,8 +2,8 @@
 use Rattle.std.proofs.Common.{◌≡◌, ℕ, ◌+◌, ◌-◌, ◌<◌, ◌≤◌, List, ◌++◌, length, get_or, take, drop, replicate, sym, ap, ap₂, ◌∙◌, arith, ⊎_elim}
 use Rattle.std.proofs.lemmas.Bool.{cases_lt}
 use Rattle.std.proofs.lemmas.List.{append-nil, length-append, length-replicate, take_at, drop_at, drop-drop, drop-replicate, get_or_append_left, get_or-append_right}
-use Rattle.mf_rules.specs.Rows.{list_of}
-use Rattle.mf_rules.proofs.Lists.{length-list_of, list_of_at, list_of_from}
+use Rattle.mf_code.specs.Rows.{list_of}
+use Rattle.mf_code.proofs.Lists.{length-list_of, list_of_at, list_of_from}
 
 -- a list made in two parts
 pub list_of-add : (n k : ℕ) (f : ℕ → ℕ) → list_of n f ++ list_of k (λ x. f (n + x)) ≡ list_of (n + k) f

@@ -1,6 +1,6 @@
 //! Sums and products over byte slices.
 ghost use Rattle.std.specs.Prelude.{◌≡◌, length};
-ghost use Rattle.mf_rules.specs.Rows.{added, scaled, added_scaled};
+ghost use Rattle.mf_code.specs.Rows.{added, scaled, added_scaled};
 
 use mf_field::{add, mul};
 

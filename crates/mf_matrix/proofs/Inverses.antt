@@ -1,8 +1,8 @@
 -- A system solved for each unknown has the inverse on its right side.
 use Rattle.std.proofs.Common.{◌≡◌, ℕ, ◌+◌, ◌<◌, bit_xor, refl, sym, ap, ap₂, subst, ◌∙◌}
-use Rattle.mf_rules.specs.Field.{times}
-use Rattle.mf_rules.specs.Sums.{sum_below}
-use Rattle.mf_rules.proofs.Sums.{sum_below-same, sum_below-zero}
+use Rattle.mf_code.specs.Field.{times}
+use Rattle.mf_code.specs.Sums.{sum_below}
+use Rattle.mf_code.proofs.Sums.{sum_below-same, sum_below-zero}
 use Rattle.mf_matrix.specs.Tables.{IsTable, IsBytes, identity_at, product_at, GivesIdentity, IsInverse, SendsToZero}
 use Rattle.mf_matrix.specs.Elimination.{Solves, SameSolutions, IsSolvedBelow, IsSystemOf}
 use Rattle.mf_field.proofs.FieldLaws.{times-zero}

@@ -1,8 +1,8 @@
 -- Sums of products of rows.
 use Rattle.std.proofs.Common.{◌≡◌, ℕ, ◌<◌, bit_xor, sym, ap, ◌∙◌}
-use Rattle.mf_rules.specs.Field.{times}
-use Rattle.mf_rules.specs.Sums.{sum_below}
-use Rattle.mf_rules.proofs.Sums.{sum_below-same, sum_below_xor}
+use Rattle.mf_code.specs.Field.{times}
+use Rattle.mf_code.specs.Sums.{sum_below}
+use Rattle.mf_code.proofs.Sums.{sum_below-same, sum_below_xor}
 use Rattle.mf_matrix.specs.Tables.{IsTable, IsBytes, product_at}
 use Rattle.mf_field.proofs.SumLaws.{times_sum, sum_times, sum_below_swap}
 use Rattle.mf_field.proofs.FieldLaws.{times_assoc, add_times}

@@ -3,7 +3,7 @@ use Rattle.std.proofs.Common.{◌≡◌, ◌≢◌, ℕ, ◌+◌, ◌<◌, ◌�
 use Rattle.std.specs.Int.Bits.{xor_zero_r, xor_zero_l, xor_self}
 use Rattle.std.proofs.lemmas.Nat.{xor_lt}
 use Rattle.std.proofs.lemmas.Bool.{cases_eq}
-use Rattle.mf_rules.specs.Field.{times}
+use Rattle.mf_code.specs.Field.{times}
 use Rattle.mf_matrix.specs.Tables.{IsTable, identity_at}
 use Rattle.mf_matrix.specs.Elimination.{AddsTimes, Scales, IsSolvedBelow, IsCleared}
 use Rattle.mf_field.proofs.FieldLaws.{times-lt, times-zero, times-one, one-times}

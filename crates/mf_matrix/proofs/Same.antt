@@ -2,8 +2,8 @@
 use Rattle.std.proofs.Common.{◌≡◌, ℕ, ◌<◌, List, inl, inr, get_or, refl, sym, ap, ap₂, ◌∙◌, arith}
 use Rattle.std.proofs.lemmas.Bool.{cases_lt}
 use Rattle.std.proofs.lemmas.List.{get_or_past}
-use Rattle.mf_rules.specs.Field.{times}
-use Rattle.mf_rules.proofs.Sums.{sum_below-same}
+use Rattle.mf_code.specs.Field.{times}
+use Rattle.mf_code.proofs.Sums.{sum_below-same}
 use Rattle.mf_matrix.specs.Tables.{IsTable, IsBytes, IsInverse, HasInverse, GivesIdentity, SendsToZero, DependsOnEarlier, IsKernel}
 use Rattle.mf_matrix.proofs.Inverses.{zero_from_inverse}
 

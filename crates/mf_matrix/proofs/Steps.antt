@@ -2,9 +2,9 @@
 use Rattle.std.proofs.Common.{◌≡◌, ◌≢◌, ℕ, ◌+◌, ◌<◌, inl, inr, cond, eqb, bit_xor, refl, sym, ap, ap₂, ◌∙◌}
 use Rattle.std.specs.Int.Bits.{xor_zero_r}
 use Rattle.std.proofs.lemmas.Bool.Decides.{eqb_tells}
-use Rattle.mf_rules.specs.Field.{times}
-use Rattle.mf_rules.specs.Sums.{sum_below}
-use Rattle.mf_rules.proofs.Sums.{sum_below-same, sum_below-lt}
+use Rattle.mf_code.specs.Field.{times}
+use Rattle.mf_code.specs.Sums.{sum_below}
+use Rattle.mf_code.proofs.Sums.{sum_below-same, sum_below-lt}
 use Rattle.mf_matrix.specs.Tables.{IsTable, IsBytes}
 use Rattle.mf_matrix.specs.Elimination.{SameSolutions, AddsTimes, Scales}
 use Rattle.mf_field.proofs.FieldLaws.{times-lt, times_assoc, times-zero, one-times}

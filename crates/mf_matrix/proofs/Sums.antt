@@ -7,12 +7,12 @@ use Rattle.std.proofs.Common.{◌*◌}
 use Rattle.std.proofs.Math.Nat.{mul_comm}
 use Rattle.std.proofs.lemmas.Nat.{mul-add-lt}
 use Rattle.std.proofs.lemmas.List.{length_push, get_or_append_left, get_or_push, get_or-append-add}
-use Rattle.mf_rules.specs.Rows.{list_of}
-use Rattle.mf_rules.proofs.Lists.{length-list_of, list_of_at, list_of_from}
+use Rattle.mf_code.specs.Rows.{list_of}
+use Rattle.mf_code.proofs.Lists.{length-list_of, list_of_at, list_of_from}
 use Rattle.std.proofs.lemmas.Bool.Decides.{eqb_tells, nat_tests}
-use Rattle.mf_rules.specs.Field.{times}
-use Rattle.mf_rules.specs.Sums.{sum_below}
-use Rattle.mf_rules.proofs.Sums.{sum_below-same, sum_below-add}
+use Rattle.mf_code.specs.Field.{times}
+use Rattle.mf_code.specs.Sums.{sum_below}
+use Rattle.mf_code.proofs.Sums.{sum_below-same, sum_below-add}
 use Rattle.mf_matrix.specs.Tables.{IsBytes, identity_at}
 use Rattle.mf_field.proofs.FieldLaws.{times-zero, zero-times, times-one, one-times}
 use Rattle.mf_field.proofs.SumLaws.{sum_below-single}

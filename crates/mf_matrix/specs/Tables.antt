@@ -1,7 +1,7 @@
 -- Tables of bytes: the entry in row i and column j is t i j.
 use Rattle.std.specs.Prelude.{ℕ, ◌≡◌, ◌<◌, ◌==◌, if◌then◌else◌, List, length, slice_index}
-use Rattle.mf_rules.specs.Field.{times}
-use Rattle.mf_rules.specs.Sums.{sum_below}
+use Rattle.mf_code.specs.Field.{times}
+use Rattle.mf_code.specs.Sums.{sum_below}
 
 -- The table's entries are bytes.
 abbrev pub IsTable : (ℕ → ℕ → ℕ) → Type 0

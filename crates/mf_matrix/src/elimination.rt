@@ -4,8 +4,8 @@
 ghost use Rattle.std.specs.Prelude.{◌≡◌, ◌≢◌, ℕ, ◌+◌, ◌*◌, ◌<◌, ◌≤◌, ◌⊎◌, ◌++◌};
 ghost use Rattle.std.specs.Prelude.{length, slice_index, bit_xor, OnOk, IfOk, IfSome, IfNone};
 ghost use Rattle.std.specs.Bool.{OnTrue, OnFalse};
-ghost use Rattle.mf_rules.specs.Field.{times};
-ghost use Rattle.mf_rules.specs.Rows.{list_of};
+ghost use Rattle.mf_code.specs.Field.{times};
+ghost use Rattle.mf_code.specs.Rows.{list_of};
 ghost use Rattle.mf_matrix.specs.Tables.{IsTable};
 ghost use Rattle.mf_matrix.specs.Matrix.{entry};
 ghost use Rattle.mf_matrix.specs.Elimination.{coefficient, SameSolutions, IsSolvedBelow, AddsTimes};

@@ -4,12 +4,12 @@ use Rattle.std.proofs.lemmas.Bool.{cases_lt}
 use Rattle.std.proofs.lemmas.Grind.{div_ceil_times}
 use Rattle.std.proofs.lemmas.List.{get_or-map, get_or_past}
 use Rattle.std.proofs.lemmas.List.FromFn.{length-map-range_with_len, get_or-map-range_with_len}
-use Rattle.mf_rules.specs.Field.{times, power}
-use Rattle.mf_rules.specs.Sums.{sum_below}
-use Rattle.mf_rules.specs.Rows.{list_of, column}
-use Rattle.mf_rules.specs.Chunks.{chunk_count, parity, parity_byte}
-use Rattle.mf_rules.proofs.Sums.{sum_below-same}
-use Rattle.mf_rules.proofs.Lists.{list_of-same, length-parity, parity_at}
+use Rattle.mf_code.specs.Field.{times, power}
+use Rattle.mf_code.specs.Sums.{sum_below}
+use Rattle.mf_code.specs.Rows.{list_of, column}
+use Rattle.mf_code.specs.Chunks.{chunk_count, parity, parity_byte}
+use Rattle.mf_code.proofs.Sums.{sum_below-same}
+use Rattle.mf_code.proofs.Lists.{list_of-same, length-parity, parity_at}
 use Rattle.mf_field.proofs.Parities.{parity_byte_merging, parity_byte_merging_of}
 use Rattle.mf_merge.specs.Merged.{first_length, merged_byte, stripe_count, narrow_parities}
 

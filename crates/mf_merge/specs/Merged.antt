@@ -4,10 +4,10 @@ use Rattle.std.specs.Prelude.{ℕ, ◌+◌, ◌-◌, ◌*◌, min, List, [], len
 use Rattle.std.specs.Prelude.{slice_index, slice_index_or}
 use Rattle.std.specs.Int.{div_ceil}
 use Rattle.std.specs.List.{range_with_len}
-use Rattle.mf_rules.specs.Field.{times, power}
-use Rattle.mf_rules.specs.Sums.{sum_below}
-use Rattle.mf_rules.specs.Rows.{column}
-use Rattle.mf_rules.specs.Chunks.{chunk_count, parity}
+use Rattle.mf_code.specs.Field.{times, power}
+use Rattle.mf_code.specs.Sums.{sum_below}
+use Rattle.mf_code.specs.Rows.{column}
+use Rattle.mf_code.specs.Chunks.{chunk_count, parity}
 
 -- How many bytes the first of the parities has.
 abbrev pub first_length : List (List ℕ) → ℕ

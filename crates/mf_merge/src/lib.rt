@@ -3,8 +3,8 @@
 
 ghost use Rattle.std.specs.Prelude.{◌≡◌, ◌+◌, ◌-◌, ◌*◌, ◌<◌, ◌≤◌, ℕ, List, ◌++◌, All, IfOk};
 ghost use Rattle.std.specs.Prelude.{length, take, drop};
-ghost use Rattle.mf_rules.specs.Chunks.{parity};
-ghost use Rattle.mf_rules.specs.Rows.{list_of};
+ghost use Rattle.mf_code.specs.Chunks.{parity};
+ghost use Rattle.mf_code.specs.Rows.{list_of};
 ghost use Rattle.mf_merge.specs.Merged.{first_length, merged_byte, narrow_parities};
 
 use mf_field::pow;

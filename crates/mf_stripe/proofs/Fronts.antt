@@ -3,8 +3,8 @@ use Rattle.std.proofs.Common.{◌≡◌, ℕ, ◌≤◌, List, [], ◌∷◌, le
 use Rattle.std.proofs.lemmas.List.{map-id, length-map, get_or-map}
 use Rattle.std.proofs.lemmas.Simd.{zip2_of_maps}
 use lib.Lanes.{zip2}
-use Rattle.mf_rules.specs.Rows.{column, weighted_lists}
-use Rattle.mf_rules.specs.Sums.{weighted}
+use Rattle.mf_code.specs.Rows.{column, weighted_lists}
+use Rattle.mf_code.specs.Sums.{weighted}
 use Rattle.mf_kernel.proofs.Fronts.{front, length-front, front_none, front_all, front_more}
 use Rattle.mf_stripe.specs.Block.{with_columns}
 

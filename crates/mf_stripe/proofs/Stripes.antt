@@ -2,12 +2,12 @@
 use Rattle.std.proofs.Common.{◌≡◌, ℕ, ◌+◌, ◌-◌, ◌*◌, ◌<◌, min, List, [], length, get_or, sym, ap, ◌∙◌, arith}
 use Rattle.std.proofs.lemmas.List.{get_or-map}
 use Rattle.std.proofs.lemmas.List.FromFn.{length-map-range_with_len, get_or-map-range_with_len}
-use Rattle.mf_rules.specs.Field.{times, power}
-use Rattle.mf_rules.specs.Rows.{column, weighted_lists}
-use Rattle.mf_rules.specs.Sums.{sum_below, weighted}
-use Rattle.mf_rules.specs.Chunks.{chunk, chunk_count, parity, parity_byte}
-use Rattle.mf_rules.proofs.Sums.{sum_below-same}
-use Rattle.mf_rules.proofs.Lists.{list_of-same, parity_byte_by_place}
+use Rattle.mf_code.specs.Field.{times, power}
+use Rattle.mf_code.specs.Rows.{column, weighted_lists}
+use Rattle.mf_code.specs.Sums.{sum_below, weighted}
+use Rattle.mf_code.specs.Chunks.{chunk, chunk_count, parity, parity_byte}
+use Rattle.mf_code.proofs.Sums.{sum_below-same}
+use Rattle.mf_code.proofs.Lists.{list_of-same, parity_byte_by_place}
 use Rattle.mf_stripe.specs.Stripe.{stripe}
 use Rattle.mf_kernel.proofs.Blocks.{length-column}
 

@@ -2,8 +2,8 @@
 use Rattle.std.specs.Prelude.{ℕ, ◌+◌, ◌-◌, List, ◌++◌, map, take, drop}
 use Rattle.std.specs.declared.vec.Vec.{Vec}
 use Rattle.std.specs.declared.alloc.Global.{Global}
-use Rattle.mf_rules.specs.Rows.{list_of, column}
-use Rattle.mf_rules.specs.Sums.{weighted}
+use Rattle.mf_code.specs.Rows.{list_of, column}
+use Rattle.mf_code.specs.Sums.{weighted}
 
 -- The bytes of each vector, in turn.
 abbrev pub rows : List (Vec ℕ Global) → List (List ℕ)

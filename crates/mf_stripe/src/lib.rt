@@ -3,9 +3,9 @@
 
 ghost use Rattle.std.specs.Prelude.{◌≡◌, ◌+◌, ◌<◌, ◌≤◌, ℕ, List, All, IfOk, length, map};
 ghost use Rattle.std.specs.Prelude.{slice_index, replicate};
-ghost use Rattle.mf_rules.specs.Chunks.{parity};
-ghost use Rattle.mf_rules.specs.Rows.{list_of, column, weighted_lists};
-ghost use Rattle.mf_rules.specs.Sums.{weighted};
+ghost use Rattle.mf_code.specs.Chunks.{parity};
+ghost use Rattle.mf_code.specs.Rows.{list_of, column, weighted_lists};
+ghost use Rattle.mf_code.specs.Sums.{weighted};
 ghost use Rattle.mf_stripe.specs.Stripe.{stripe};
 ghost use Rattle.mf_stripe.specs.Block.{rows, with_columns};
 ghost use lib.Lanes.{zip2};

@@ -1,7 +1,7 @@
 -- How the report is put together.
 use Rattle.std.proofs.Common.{◌≡◌, ℕ, ◌+◌, List, [], ◌++◌, length, ap, ◌∙◌, append_assoc, append-nil, codes}
 use Rattle.sha2.specs.Sha256.{sha256}
-use Rattle.mf_rules.specs.Chunks.{chunk_count}
+use Rattle.mf_code.specs.Chunks.{chunk_count}
 use Rattle.mf_words.specs.declared.counts.Io.{Io}
 use Rattle.mf_words.specs.declared.outcomes.Outcome.{Outcome}
 use Rattle.mf_words.specs.declared.outcomes.Outcome.TheVariants.{Created, Bytes}

@@ -2,7 +2,7 @@
 use Rattle.std.specs.Prelude.{ℕ, ◌+◌, List, [], ◌∷◌, length}
 use Rattle.std.specs.Int.{div_ceil}
 use Rattle.sha2.specs.Sha256.{sha256}
-use Rattle.mf_rules.specs.Chunks.{chunk_count}
+use Rattle.mf_code.specs.Chunks.{chunk_count}
 use Rattle.mf_words.specs.declared.counts.Io.{Io}
 use Rattle.mf_words.specs.declared.places.Place.{Place}
 use Rattle.mf_words.specs.declared.outcomes.Outcome.TheVariants.{Created, Bytes}

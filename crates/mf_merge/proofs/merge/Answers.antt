@@ -1,6 +1,6 @@
 use Rattle.std.proofs.Common.{◌≡◌, ℕ, ◌+◌, ◌-◌, ◌*◌, ◌<◌, ◌≤◌, min, List, [], ◌++◌, length, take, drop, ap, ◌∙◌, arith}
 use Rattle.std.proofs.lemmas.List.{with_items_is, get_or_default}
-use Rattle.mf_rules.specs.Rows.{list_of}
+use Rattle.mf_code.specs.Rows.{list_of}
 use Rattle.mf_kernel.proofs.Blocks.{block_begins, blocks_cover}
 use Rattle.mf_kernel.proofs.Fronts.{front, front_more, front_all}
 use Rattle.mf_merge.specs.Merged.{first_length, merged_byte}

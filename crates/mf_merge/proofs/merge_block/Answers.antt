@@ -1,7 +1,7 @@
 use Rattle.std.proofs.Common.{◌≡◌, ℕ, ◌+◌, ◌*◌, ◌≤◌, length, get_or, ap, ◌∙◌, arith}
-use Rattle.mf_rules.specs.Field.{power}
-use Rattle.mf_rules.specs.Rows.{column}
-use Rattle.mf_rules.proofs.Lists.{list_of_from}
+use Rattle.mf_code.specs.Field.{power}
+use Rattle.mf_code.specs.Rows.{column}
+use Rattle.mf_code.proofs.Lists.{list_of_from}
 use Rattle.mf_kernel.proofs.Blocks.{scaled_sum, block_none, block_more}
 use Rattle.mf_merge.specs.Merged.{merged_byte}
 use Rattle.mf_merge.proofs.merge_block.Goals as goal

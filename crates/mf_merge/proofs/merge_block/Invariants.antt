@@ -1,7 +1,7 @@
 -- Each byte so far is the sum over the parities so far.
 use Rattle.std.proofs.Common.{◌≡◌, ℕ, ◌+◌, ◌*◌, ◌<◌, length, get_or}
-use Rattle.mf_rules.specs.Field.{power}
-use Rattle.mf_rules.specs.Rows.{column}
+use Rattle.mf_code.specs.Field.{power}
+use Rattle.mf_code.specs.Rows.{column}
 use Rattle.mf_kernel.proofs.Blocks.{scaled_sum}
 use Rattle.mf_merge.proofs.merge_block.Given as goal
 

@@ -1,6 +1,6 @@
 use Rattle.std.proofs.Common.{◌≡◌, ℕ, ◌+◌, ◌*◌, List, ◌++◌, get_or, length, ap, ◌∙◌, arith, length-append}
-use Rattle.mf_rules.specs.Rows.{list_of}
-use Rattle.mf_rules.proofs.Lists.{length-list_of, list_of_at}
+use Rattle.mf_code.specs.Rows.{list_of}
+use Rattle.mf_code.proofs.Lists.{length-list_of, list_of_at}
 use Rattle.mf_erasure.specs.Erasure.{entry}
 use Rattle.mf_matrix.proofs.Sums.{cells_more}
 use Rattle.mf_check.proofs.sets.cells_of.Goals as goal

@@ -1,5 +1,5 @@
 use Rattle.std.proofs.Common.{◌≡◌, ◌<◌, ◌+◌, ◌*◌, ℕ, List, length, take, get_or, ap, ap₂, sym, subst, ◌∙◌, length-take-le}
-use Rattle.mf_rules.specs.Decodable.{IsDecodableAt}
+use Rattle.mf_code.specs.Decodable.{IsDecodableAt}
 use Rattle.mf_erasure.specs.Erasure.{entry, others_from, Splits}
 use Rattle.mf_erasure.proofs.Bridge.{only_zero_from_decodable, decodable_from_only_zero}
 use Rattle.mf_matrix.specs.Tables.{IsTable, IsInverse, IsKernel}
@@ -8,7 +8,7 @@ use Rattle.mf_matrix.specs.Matrix.{entry as cell}
 use Rattle.mf_matrix.specs.declared.NoInverse.{NoInverse}
 use Rattle.mf_matrix.specs.NoInverses.{IsNoInverse}
 use Rattle.mf_matrix.proofs.Same.{only_zero-from_inverse, no_kernel, is_kernel-same}
-use Rattle.mf_rules.specs.Decodable.{IsPlaceSet}
+use Rattle.mf_code.specs.Decodable.{IsPlaceSet}
 use Rattle.mf_check.specs.Sets.{IsDataFront, IsKernelOfSet}
 use Rattle.mf_check.proofs.Parts.{gone_from, Splits-of_front, same_entries}
 use Rattle.mf_check.proofs.sets.kernel_at.Goals as goal

@@ -1,6 +1,6 @@
 use Rattle.std.proofs.Common.{◌≡◌, ℕ, ◌+◌, List, [], ◌∷◌, ◌++◌, get_or, ap, sym, ◌∙◌, append_assoc}
-use Rattle.mf_rules.specs.Field.{power}
-use Rattle.mf_rules.specs.Rows.{list_of}
+use Rattle.mf_code.specs.Field.{power}
+use Rattle.mf_code.specs.Rows.{list_of}
 use Rattle.mf_matrix.proofs.Sums.{list_of-more}
 use Rattle.mf_check.proofs.sets.push_row.Goals as goal
 

@@ -1,6 +1,6 @@
 use Rattle.std.proofs.Common.{◌≡◌, ◌++◌, slice_index}
-use Rattle.mf_rules.specs.Field.{power}
-use Rattle.mf_rules.specs.Rows.{list_of}
+use Rattle.mf_code.specs.Field.{power}
+use Rattle.mf_code.specs.Rows.{list_of}
 use Rattle.mf_check.proofs.sets.push_row.Given as goal
 
 abbrev pub invariant-loop-place : goal.invariant-loop-place

@@ -1,6 +1,6 @@
 use Rattle.std.proofs.Common.{◌≡◌, ℕ, ◌+◌, ◌<◌, ◌≤◌, List, length, get_or, refl, sym, ap, ◌∙◌, subst, arith}
-use Rattle.mf_rules.specs.Field.{times}
-use Rattle.mf_rules.specs.Rows.{column}
+use Rattle.mf_code.specs.Field.{times}
+use Rattle.mf_code.specs.Rows.{column}
 use Rattle.mf_decode.proofs.Blocks.{nothing_added, term_added, added_at, column_at}
 use Rattle.mf_decode.proofs.applying.add_parities.Goals as goal
 

@@ -3,8 +3,8 @@ use Rattle.std.specs.Prelude.{unwrap_or, IfSome}
 use Rattle.std.specs.Int.Bits.{xor_zero_r}
 use Rattle.mf_field.proofs.FieldLaws.{times-zero}
 use Rattle.std.specs.Option.{option_map}
-use Rattle.mf_rules.specs.Sums.{sum_below}
-use Rattle.mf_rules.specs.Field.{times}
+use Rattle.mf_code.specs.Sums.{sum_below}
+use Rattle.mf_code.specs.Field.{times}
 use Rattle.mf_decode.specs.Decoding.{column_of}
 use Rattle.mf_decode.specs.Columns.{there, weight_of}
 use Rattle.mf_decode.proofs.Blocks.{nothing_added, term_added, added_at, there_at}

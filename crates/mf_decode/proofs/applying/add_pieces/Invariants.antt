@@ -1,6 +1,6 @@
 use Rattle.std.proofs.Common.{◌≡◌, ℕ, ◌+◌, ◌<◌, get_or, length, bit_xor}
-use Rattle.mf_rules.specs.Field.{times}
-use Rattle.mf_rules.specs.Sums.{sum_below}
+use Rattle.mf_code.specs.Field.{times}
+use Rattle.mf_code.specs.Sums.{sum_below}
 use Rattle.mf_decode.specs.Decoding.{column_of}
 use Rattle.mf_decode.specs.Columns.{there, weight_of}
 use Rattle.mf_decode.proofs.applying.add_pieces.Given as goal

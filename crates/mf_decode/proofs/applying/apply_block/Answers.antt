@@ -1,8 +1,8 @@
 use Rattle.std.proofs.Common.{◌≡◌, ℕ, ◌+◌, ◌-◌, ◌*◌, ◌<◌, List, length, take, drop, get_or, bit_xor, sym, ap, ◌∙◌, subst, arith, rules}
 use Rattle.std.proofs.lemmas.List.{get_or-replicate}
-use Rattle.mf_rules.specs.Field.{times}
-use Rattle.mf_rules.specs.Sums.{sum_below}
-use Rattle.mf_rules.specs.Rows.{column}
+use Rattle.mf_code.specs.Field.{times}
+use Rattle.mf_code.specs.Sums.{sum_below}
+use Rattle.mf_code.specs.Rows.{column}
 use Rattle.mf_decode.specs.Decoding.{Plan, IsDecodedAt, column_of}
 use Rattle.mf_decode.specs.Columns.{there, weight_of}
 use Rattle.mf_decode.specs.Plans.{IsPlan}

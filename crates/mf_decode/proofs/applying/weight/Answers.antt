@@ -1,6 +1,6 @@
 use Rattle.std.proofs.Common.{ℕ, get_or, bit_xor, sym, ap, ap₂, ◌∙◌}
-use Rattle.mf_rules.specs.Field.{times, power}
-use Rattle.mf_rules.proofs.Sums.{sum_below-none, sum_below-more}
+use Rattle.mf_code.specs.Field.{times, power}
+use Rattle.mf_code.proofs.Sums.{sum_below-none, sum_below-more}
 use Rattle.mf_decode.proofs.applying.weight.Goals as goal
 
 pub loop-j-init : goal.loop-j-init

@@ -1,6 +1,6 @@
 use Rattle.std.proofs.Common.{◌≡◌, ℕ, get_or}
-use Rattle.mf_rules.specs.Field.{times, power}
-use Rattle.mf_rules.specs.Sums.{sum_below}
+use Rattle.mf_code.specs.Field.{times, power}
+use Rattle.mf_code.specs.Sums.{sum_below}
 use Rattle.mf_decode.proofs.applying.weight.Given as goal
 
 abbrev pub invariant-loop-j : goal.invariant-loop-j

@@ -1,6 +1,6 @@
 use Rattle.std.proofs.Common.{length, map, get_or}
 use Rattle.std.proofs.lemmas.List.{length-map, get_or-map}
-use Rattle.mf_rules.specs.Field.{power}
+use Rattle.mf_code.specs.Field.{power}
 use Rattle.mf_erasure.specs.Erasure.{entry}
 use Rattle.mf_decode.proofs.Planned.{has_rows-none, has_rows-more}
 use Rattle.mf_decode.proofs.planning.cells_of.Goals as goal

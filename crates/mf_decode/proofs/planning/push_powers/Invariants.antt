@@ -1,5 +1,5 @@
 use Rattle.std.proofs.Common.{◌≡◌, ◌++◌, map, take}
-use Rattle.mf_rules.specs.Field.{power}
+use Rattle.mf_code.specs.Field.{power}
 use Rattle.mf_decode.proofs.planning.push_powers.Given as goal
 
 abbrev pub invariant-loop-t : goal.invariant-loop-t

@@ -1,5 +1,5 @@
 use Rattle.std.proofs.Common.{◌≡◌, ◌++◌}
-use Rattle.mf_rules.specs.Rows.{list_of}
+use Rattle.mf_code.specs.Rows.{list_of}
 use Rattle.mf_matrix.specs.Matrix.{entry}
 use Rattle.mf_decode.proofs.planning.push_row.Given as goal
 

@@ -1,6 +1,6 @@
 use Rattle.std.proofs.Common.{ℕ}
-use Rattle.mf_rules.specs.Rows.{list_of}
-use Rattle.mf_rules.proofs.Lists.{length-list_of, list_of_at}
+use Rattle.mf_code.specs.Rows.{list_of}
+use Rattle.mf_code.proofs.Lists.{length-list_of, list_of_at}
 use Rattle.mf_matrix.specs.Matrix.{entry}
 use Rattle.mf_decode.proofs.Planned.{has_rows-none, has_rows-more}
 use Rattle.mf_decode.proofs.planning.rows_of.Goals as goal

@@ -1,5 +1,5 @@
 use Rattle.std.proofs.Common.{bit_xor, arith}
-use Rattle.mf_rules.specs.Field.{times}
+use Rattle.mf_code.specs.Field.{times}
 use Rattle.mf_kernel.proofs.Zips.{zip2_from_places}
 use Rattle.mf_kernel.proofs.kernels.add_scaled.Goals as goal
 

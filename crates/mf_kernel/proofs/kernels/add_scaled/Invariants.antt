@@ -1,6 +1,6 @@
 -- Below the index the rule holds. From there on nothing has changed.
 use Rattle.std.proofs.Common.{◌≡◌, ℕ, ◌<◌, ◌≤◌, get_or, bit_xor}
-use Rattle.mf_rules.specs.Field.{times}
+use Rattle.mf_code.specs.Field.{times}
 use Rattle.mf_kernel.proofs.kernels.add_scaled.Given as goal
 
 abbrev pub invariant-loop-i : goal.invariant-loop-i

@@ -1,6 +1,6 @@
 -- Below the index the rule holds. From there on nothing has changed.
 use Rattle.std.proofs.Common.{◌≡◌, ℕ, ◌<◌, ◌≤◌, get_or}
-use Rattle.mf_rules.specs.Field.{times}
+use Rattle.mf_code.specs.Field.{times}
 use Rattle.mf_kernel.proofs.kernels.scale.Given as goal
 
 abbrev pub invariant-loop-d : goal.invariant-loop-d

@@ -1,7 +1,7 @@
 use Rattle.std.proofs.Common.{◌≤◌, inl, inr, arith, sym, ap, ◌∙◌, subst}
 use Rattle.std.proofs.lemmas.Bool.{cases_lt}
 use Rattle.std.proofs.lemmas.List.{get_or_past}
-use Rattle.mf_rules.specs.Field.{times}
+use Rattle.mf_code.specs.Field.{times}
 use Rattle.mf_field.proofs.FieldLaws.{times-zero}
 use Rattle.mf_matrix.proofs.elimination.multiple.Goals as goal
 

@@ -1,5 +1,5 @@
 use Rattle.std.proofs.Common.{◌≡◌, ℕ, ◌<◌, length, slice_index, bit_xor}
-use Rattle.mf_rules.specs.Field.{times}
+use Rattle.mf_code.specs.Field.{times}
 use Rattle.mf_matrix.proofs.elimination.plus_times.Given as goal
 
 abbrev pub invariant-loop-j : goal.invariant-loop-j

@@ -1,6 +1,6 @@
 use Rattle.std.proofs.Common.{◌≡◌, ◌≤◌, ◌<◌, ◌+◌, ◌-◌, ℕ, List, ◌++◌, take, drop, get_or, length, arith, ap, ◌∙◌, length-take, length-drop, get_or-take, get_or-drop}
-use Rattle.mf_rules.specs.Rows.{list_of}
-use Rattle.mf_rules.proofs.Lists.{list_of_from}
+use Rattle.mf_code.specs.Rows.{list_of}
+use Rattle.mf_code.proofs.Lists.{list_of_from}
 use Rattle.mf_matrix.proofs.elimination.push_right.Goals as goal
 
 -- n places of a list of sixteen, from place n on

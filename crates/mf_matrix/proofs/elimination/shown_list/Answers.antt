@@ -1,5 +1,5 @@
 use Rattle.std.proofs.Common.{ℕ, List, [], ◌∷◌, ◌++◌, ap, sym, ◌∙◌}
-use Rattle.mf_rules.specs.Rows.{list_of}
+use Rattle.mf_code.specs.Rows.{list_of}
 use Rattle.mf_matrix.specs.Elimination.{coefficient, shown_at}
 use Rattle.mf_matrix.proofs.Sums.{list_of-more}
 use Rattle.mf_matrix.proofs.elimination.shown_list.Goals as goal

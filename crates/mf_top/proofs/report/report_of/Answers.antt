@@ -1,7 +1,7 @@
 use Rattle.std.proofs.Common.{◌≡◌, ◌+◌, codes, ◌++◌, length, ap, ◌∙◌, arith}
 use Rattle.std.specs.Int.{div_ceil}
 use Rattle.sha2.specs.Sha256.{sha256}
-use Rattle.mf_rules.specs.Chunks.{chunk_count}
+use Rattle.mf_code.specs.Chunks.{chunk_count}
 use Rattle.mf_words.specs.declared.outcomes.Outcome.{Outcome}
 use Rattle.mf_words.specs.declared.outcomes.Outcome.TheVariants.{Created, Bytes}
 use Rattle.mf_words.specs.Lines.{ended}

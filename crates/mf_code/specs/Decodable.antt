@@ -1,7 +1,7 @@
 -- When a stripe bears the loss of any r of its places.
 use Rattle.std.specs.Prelude.{ℕ, ◌≡◌, ◌+◌, ◌<◌, List, ◌++◌, length, map, slice_index, All, Contains}
 use Rattle.std.specs.List.Sorted.{IsStrictlyIncreasing}
-use Rattle.mf_rules.specs.Sums.{weighted}
+use Rattle.mf_code.specs.Sums.{weighted}
 
 -- The word of a list of data bytes: the data, followed by one parity byte for each point.
 abbrev pub word : List ℕ → List ℕ → List ℕ

@@ -1,9 +1,9 @@
 -- The chunks of a file, and its parities. `size` is the number of bytes of a chunk, and `file` has the file's bytes.
 use Rattle.std.specs.Prelude.{ℕ, ◌+◌, ◌-◌, ◌*◌, min, List, length, slice_index}
 use Rattle.std.specs.Int.{div_ceil}
-use Rattle.mf_rules.specs.Field.{times, power}
-use Rattle.mf_rules.specs.Sums.{sum_between}
-use Rattle.mf_rules.specs.Rows.{list_of}
+use Rattle.mf_code.specs.Field.{times, power}
+use Rattle.mf_code.specs.Sums.{sum_between}
+use Rattle.mf_code.specs.Rows.{list_of}
 
 -- How many chunks the file has: its length divided by the size of a chunk, and rounded up.
 abbrev pub chunk_count : ℕ → List ℕ → ℕ

@@ -1,6 +1,6 @@
 -- Sums of bytes, which are exclusive ors.
 use Rattle.std.specs.Prelude.{ℕ, zero, suc, ◌+◌, ◌-◌, List, length, slice_index, bit_xor}
-use Rattle.mf_rules.specs.Field.{times, power}
+use Rattle.mf_code.specs.Field.{times, power}
 
 -- The sum of f 0, f 1 and so on, n of them. It is 0 where n is 0.
 unfoldable pub sum_below : ℕ → (ℕ → ℕ) → ℕ

@@ -1,11 +1,11 @@
 -- The lists of the definitions, byte by byte.
 use Rattle.std.proofs.Common.{◌≡◌, ℕ, ◌+◌, ◌-◌, ◌*◌, ◌<◌, min, List, length, get_or, ap, ◌∙◌, arith, zero-add}
 use Rattle.std.proofs.lemmas.List.FromFn.{length-map-range_with_len, get_or-map-range_with_len, fill_by_all}
-use Rattle.mf_rules.specs.Field.{times, power}
-use Rattle.mf_rules.specs.Rows.{list_of}
-use Rattle.mf_rules.specs.Chunks.{chunk, parity, parity_byte, chunk_count}
-use Rattle.mf_rules.specs.Sums.{sum_below}
-use Rattle.mf_rules.proofs.Sums.{sum_below-same}
+use Rattle.mf_code.specs.Field.{times, power}
+use Rattle.mf_code.specs.Rows.{list_of}
+use Rattle.mf_code.specs.Chunks.{chunk, parity, parity_byte, chunk_count}
+use Rattle.mf_code.specs.Sums.{sum_below}
+use Rattle.mf_code.proofs.Sums.{sum_below-same}
 
 pub length-list_of : (n : ℕ) (f : ℕ → ℕ) → length (list_of n f) ≡ n
 length-list_of n f = length-map-range_with_len f 0 n

@@ -2,8 +2,8 @@
 use Rattle.std.specs.Prelude.{ℕ, List, map, slice_index, bit_xor}
 use Rattle.std.specs.List.{range_with_len}
 use lib.Lanes.{zip2}
-use Rattle.mf_rules.specs.Field.{times}
-use Rattle.mf_rules.specs.Sums.{weighted}
+use Rattle.mf_code.specs.Field.{times}
+use Rattle.mf_code.specs.Sums.{weighted}
 
 -- The list of f 0, f 1 and so on, n of them.
 abbrev pub list_of : ℕ → (ℕ → ℕ) → List ℕ

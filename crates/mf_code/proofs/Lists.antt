@@ -40,8 +40,8 @@ parity_at size file point width j x lt = list_of_at size (parity_byte size file 
 -- byte x of a parity, its places counted from the stripe's first chunk
 pub parity_byte_by_place : (size : ℕ) (file : List ℕ) (point width j x : ℕ)
     → parity_byte size file point width j x
-    ≡ sum_below (min ((j + 1) * width) (chunk_count size file) - j * width) (λ i. times (power point i) (get_or (chunk size file (j * width + i)) x 0))
+    ≡ sum_below (min ((j + 1) * width) (chunk_count size (length file)) - j * width) (λ i. times (power point i) (get_or (chunk size file (j * width + i)) x 0))
 unfolding parity_byte
 parity_byte_by_place size file point width j x =
-    sum_below-same (min ((j + 1) * width) (chunk_count size file) - j * width) _ (λ i. times (power point i) (get_or (chunk size file (j * width + i)) x 0))
+    sum_below-same (min ((j + 1) * width) (chunk_count size (length file)) - j * width) _ (λ i. times (power point i) (get_or (chunk size file (j * width + i)) x 0))
     (λ i lt. ap (λ (e : ℕ). times (power point e) (get_or (chunk size file (j * width + i)) x 0)) (let e : j * width + i - j * width ≡ i = omega arith in e))

@@ -5,9 +5,9 @@ use Rattle.mf_code.specs.Field.{times, power}
 use Rattle.mf_code.specs.Sums.{sum_between}
 use Rattle.mf_code.specs.Rows.{list_of}
 
--- How many chunks the file has: its length divided by the size of a chunk, and rounded up.
-abbrev pub chunk_count : ℕ → List ℕ → ℕ
-chunk_count size file = div_ceil (length file) size
+-- How many chunks a file of so many bytes has: the bytes divided by the size of a chunk, and rounded up.
+abbrev pub chunk_count : ℕ → ℕ → ℕ
+chunk_count size bytes = div_ceil bytes size
 
 -- Chunk i: its byte x is byte i * size + x of the file, or 0 where the file has no such byte.
 unfoldable pub chunk : ℕ → List ℕ → ℕ → List ℕ
@@ -17,7 +17,7 @@ chunk size file i = list_of size (λ x. slice_index file (i * size + x))
 -- the file has them, of point ^ (t - j * width) times byte x of chunk t.
 unfoldable pub parity_byte : ℕ → List ℕ → ℕ → ℕ → ℕ → ℕ → ℕ
 parity_byte size file point width j x =
-    sum_between (j * width) (min ((j + 1) * width) (chunk_count size file))
+    sum_between (j * width) (min ((j + 1) * width) (chunk_count size (length file)))
     (λ t. times (power point (t - j * width)) (slice_index (chunk size file t) x))
 
 -- The parity with this point of stripe j of this width.

@@ -3,4 +3,5 @@ pub mod Field
 pub mod Sums
 pub mod Rows
 pub mod Chunks
+pub mod Stripes
 pub mod Decodable

@@ -13,7 +13,7 @@ use Rattle.mf_field.proofs.Powers.{power-lt}
 use Rattle.mf_field.proofs.SumLaws.{merging, sum_below-front}
 
 -- the chunks reach the end of the file
-pub chunks_reach : (size : ℕ) (file : List ℕ) (t : ℕ) → 0 < size → chunk_count size file ≤ t → length file ≤ t * size
+pub chunks_reach : (size : ℕ) (file : List ℕ) (t : ℕ) → 0 < size → chunk_count size (length file) ≤ t → length file ≤ t * size
 chunks_reach size file t pos le =
     let n = length file in
     let whole = div-add-mod' n size in
@@ -26,7 +26,7 @@ chunks_reach size file t pos le =
     ]
 
 -- a chunk past the last one has zero bytes
-pub chunk_past : (size : ℕ) (file : List ℕ) (t x : ℕ) → chunk_count size file ≤ t → get_or (chunk size file t) x 0 ≡ 0
+pub chunk_past : (size : ℕ) (file : List ℕ) (t x : ℕ) → chunk_count size (length file) ≤ t → get_or (chunk size file t) x 0 ≡ 0
 chunk_past size file t x le = elim (cases_lt x size) [
   | inl inside ↦
       chunk_at size file t x inside
@@ -44,7 +44,7 @@ chunk-lt size file t x bytes = elim (cases_lt x size) [
 pub parity_byte_full : (size : ℕ) (file : List ℕ) (point width j x : ℕ)
     → parity_byte size file point width j x ≡ sum_below width (λ i. times (power point i) (get_or (chunk size file (j * width + i)) x 0))
 parity_byte_full size file point width j x =
-    let m = chunk_count size file in
+    let m = chunk_count size (length file) in
     let n = min ((j + 1) * width) m - j * width in
     let wide = add-mul j 1 width in
     parity_byte_by_place size file point width j x
@@ -52,7 +52,7 @@ parity_byte_full size file point width j x =
     (λ i past lt. ap (times (power point i)) (chunk_past size file (j * width + i) x (omega arith)) ∙ times-zero (power point i)))
 
 -- a stripe past the last chunk has zero parities
-pub parity_byte_past : (size : ℕ) (file : List ℕ) (point width j x : ℕ) → chunk_count size file ≤ j * width → parity_byte size file point width j x ≡ 0
+pub parity_byte_past : (size : ℕ) (file : List ℕ) (point width j x : ℕ) → chunk_count size (length file) ≤ j * width → parity_byte size file point width j x ≡ 0
 parity_byte_past size file point width j x le =
     parity_byte_full size file point width j x
     ∙ sum_below-zero width (λ i. times (power point i) (get_or (chunk size file (j * width + i)) x 0))
@@ -86,7 +86,7 @@ parity_byte_merging size file point n k j x lp bytes =
 
 -- the same over the narrow stripes that exist, which are the first e of them
 pub parity_byte_merging_of : (size : ℕ) (file : List ℕ) (point n k j x e : ℕ) → point < 256 → ((i : ℕ) → get_or file i 0 < 256)
-    → e ≤ n → chunk_count size file ≤ (j * n + e) * k
+    → e ≤ n → chunk_count size (length file) ≤ (j * n + e) * k
     → parity_byte size file point (n * k) j x ≡ sum_below e (λ b. times (power point (b * k)) (parity_byte size file point k (j * n + b) x))
 parity_byte_merging_of size file point n k j x e lp bytes le reach =
     parity_byte_merging size file point n k j x lp bytes

@@ -11,7 +11,8 @@ use Rattle.mf_code.specs.Chunks.{chunk_count, parity, parity_byte}
 use Rattle.mf_code.proofs.Sums.{sum_below-same}
 use Rattle.mf_code.proofs.Lists.{list_of-same, length-parity, parity_at}
 use Rattle.mf_field.proofs.Parities.{parity_byte_merging, parity_byte_merging_of}
-use Rattle.mf_merge.specs.Merged.{first_length, merged_byte, stripe_count, narrow_parities}
+use Rattle.mf_code.specs.Stripes.{stripe_count, narrow_parities}
+use Rattle.mf_merge.specs.Merged.{first_length, merged_byte}
 
 -- each byte of a file of bytes, and what is past its end
 pub bytes_below : (file : List ℕ) → All (λ b. b < 256) file → (i : ℕ) → get_or file i 0 < 256
@@ -23,7 +24,7 @@ bytes_below file bytes i = elim (cases_lt i (length file)) [
 module _ (size : ℕ) (file : List ℕ) (point width factor j : ℕ) where
   -- how many of the narrow stripes the file has
   abbrev pub count : ℕ
-  count = min ((j + 1) * factor) (stripe_count size file width) - j * factor
+  count = min ((j + 1) * factor) (stripe_count size (length file) width) - j * factor
 
   pub length-narrow : length (narrow_parities size file point width factor j) ≡ count
   unfolding narrow_parities
@@ -42,11 +43,11 @@ module _ (size : ℕ) (file : List ℕ) (point width factor j : ℕ) where
       ∙ ap (λ (xs : List ℕ). get_or xs x 0) (narrow_at b lt) ∙ parity_at size file point width (j * factor + b) x inside
 
   -- the narrow stripes that the file has hold all its chunks of the wide stripe
-  pub narrow_reach : 0 < width → count < factor → chunk_count size file ≤ (j * factor + count) * width
+  pub narrow_reach : 0 < width → count < factor → chunk_count size (length file) ≤ (j * factor + count) * width
   narrow_reach some less =
-      let m = chunk_count size file in
+      let m = chunk_count size (length file) in
       let wide = add-mul j 1 factor in
-      let all : stripe_count size file width ≤ j * factor + count = omega arith in
+      let all : stripe_count size (length file) width ≤ j * factor + count = omega arith in
       omega (arith, (div_ceil_times m width some).0, mul-le-mul_right width all)
 
   pub merged_narrow : point < 256 → All (λ b. b < 256) file → 0 < width → (x : ℕ) → x < size

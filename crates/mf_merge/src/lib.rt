@@ -5,7 +5,8 @@ ghost use Rattle.std.specs.Prelude.{◌≡◌, ◌+◌, ◌-◌, ◌*◌, ◌<�
 ghost use Rattle.std.specs.Prelude.{length, take, drop};
 ghost use Rattle.mf_code.specs.Chunks.{parity};
 ghost use Rattle.mf_code.specs.Rows.{list_of};
-ghost use Rattle.mf_merge.specs.Merged.{first_length, merged_byte, narrow_parities};
+ghost use Rattle.mf_code.specs.Stripes.{narrow_parities};
+ghost use Rattle.mf_merge.specs.Merged.{first_length, merged_byte};
 
 use mf_field::pow;
 pub use mf_kernel::{Chunk, Memory};

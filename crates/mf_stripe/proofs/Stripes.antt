@@ -8,13 +8,13 @@ use Rattle.mf_code.specs.Sums.{sum_below, weighted}
 use Rattle.mf_code.specs.Chunks.{chunk, chunk_count, parity, parity_byte}
 use Rattle.mf_code.proofs.Sums.{sum_below-same}
 use Rattle.mf_code.proofs.Lists.{list_of-same, parity_byte_by_place}
-use Rattle.mf_stripe.specs.Stripe.{stripe}
+use Rattle.mf_code.specs.Stripes.{stripe}
 use Rattle.mf_kernel.proofs.Blocks.{length-column}
 
 module _ (size : ℕ) (file : List ℕ) (point width j : ℕ) where
   -- how many chunks the stripe has
   abbrev count : ℕ
-  count = min ((j + 1) * width) (chunk_count size file) - j * width
+  count = min ((j + 1) * width) (chunk_count size (length file)) - j * width
 
   pub length-stripe : length (stripe size file width j) ≡ count
   unfolding stripe

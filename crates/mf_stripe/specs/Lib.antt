@@ -1,2 +1,1 @@
-pub mod Stripe
 pub mod Block

@@ -6,7 +6,7 @@ ghost use Rattle.std.specs.Prelude.{slice_index, replicate};
 ghost use Rattle.mf_code.specs.Chunks.{parity};
 ghost use Rattle.mf_code.specs.Rows.{list_of, column, weighted_lists};
 ghost use Rattle.mf_code.specs.Sums.{weighted};
-ghost use Rattle.mf_stripe.specs.Stripe.{stripe};
+ghost use Rattle.mf_code.specs.Stripes.{stripe};
 ghost use Rattle.mf_stripe.specs.Block.{rows, with_columns};
 ghost use lib.Lanes.{zip2};
 

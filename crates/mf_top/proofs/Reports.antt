@@ -38,9 +38,9 @@ pieces made_name read_name bytes created read total none =
 
 -- they are the report
 pub pieces_text : (s : FirstScript)
-    → pieces s.name s.name (Bytes 0 (length s.text) (chunk_count s.chunk s.text) (sha256 s.text)) (create_io s) (read_io s) (add_io (create_io s) (add_io (read_io s) no_io)) no_io
+    → pieces s.name s.name (Bytes 0 (length s.text) (chunk_count s.chunk (length s.text)) (sha256 s.text)) (create_io s) (read_io s) (add_io (create_io s) (add_io (read_io s) no_io)) no_io
     ≡ report_text (dones_of s)
 pieces_text s =
     six_pieces (codes "report 1\n") (done_text 1 (codes "create ") s.name Created (create_io s))
-    (done_text 2 (codes "read ") s.name (Bytes 0 (length s.text) (chunk_count s.chunk s.text) (sha256 s.text)) (read_io s))
+    (done_text 2 (codes "read ") s.name (Bytes 0 (length s.text) (chunk_count s.chunk (length s.text)) (sha256 s.text)) (read_io s))
     (ended (codes "total " ++ io_text (add_io (create_io s) (add_io (read_io s) no_io)))) (ended (codes "converts " ++ io_text no_io)) (codes "end\n")

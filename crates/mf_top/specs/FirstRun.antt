@@ -1,8 +1,8 @@
 -- The run of a script of the first form.
 use Rattle.std.specs.Prelude.{ℕ, ◌+◌, List, [], ◌∷◌, length}
-use Rattle.std.specs.Int.{div_ceil}
 use Rattle.sha2.specs.Sha256.{sha256}
 use Rattle.mf_code.specs.Chunks.{chunk_count}
+use Rattle.mf_code.specs.Stripes.{stripe_count}
 use Rattle.mf_words.specs.declared.counts.Io.{Io}
 use Rattle.mf_words.specs.declared.places.Place.{Place}
 use Rattle.mf_words.specs.declared.outcomes.Outcome.TheVariants.{Created, Bytes}
@@ -10,13 +10,9 @@ use Rattle.mf_words.specs.Commands.{create, read}
 use Rattle.mf_words.specs.Report.{Done}
 use Rattle.mf_first.specs.FirstForm.{FirstScript}
 
--- the stripes of the one stage: the last may be short
-abbrev pub stripe_count : FirstScript → ℕ
-stripe_count s = div_ceil (chunk_count s.chunk s.text) s.width
-
 -- the names of generation 0: each chunk, and one parity per stripe
 abbrev pub name_count : FirstScript → ℕ
-name_count s = chunk_count s.chunk s.text + stripe_count s
+name_count s = chunk_count s.chunk (length s.text) + stripe_count s.chunk (length s.text) s.width
 
 -- creating probes each name and writes it
 abbrev pub create_io : FirstScript → Io
@@ -27,7 +23,7 @@ create_io s =
 abbrev pub read_io : FirstScript → Io
 read_io s =
     record {
-      pieces = chunk_count s.chunk s.text;
+      pieces = chunk_count s.chunk (length s.text);
       copies = 0;
       parities = 0;
       misses = 0;
@@ -47,7 +43,7 @@ dones_of s =
     ∷ record {
       place = place_of 2;
       command = read s.name;
-      outcome = Bytes 0 (length s.text) (chunk_count s.chunk s.text) (sha256 s.text);
+      outcome = Bytes 0 (length s.text) (chunk_count s.chunk (length s.text)) (sha256 s.text);
       io = read_io s;
     }
     ∷ []

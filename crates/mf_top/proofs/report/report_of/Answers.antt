@@ -36,14 +36,14 @@ returns c =
     four c.in_ok-extend_from_slice-2.ensures.items in
     let size : c.len.result ≡ length s.text = omega (arith, c.len.ensures, c.args.script.now.text.ok.0) in
     let size_again : c.len-2.result ≡ length s.text = omega (arith, c.len-2.ensures, c.args.script.now.text.ok.0) in
-    let chunks_is : chunks ≡ chunk_count s.chunk s.text = c.div_ceil-chunks.ensures ∙ ap (λ n. div_ceil n s.chunk) size in
+    let chunks_is : chunks ≡ chunk_count s.chunk (length s.text) = c.div_ceil-chunks.ensures ∙ ap (λ n. div_ceil n s.chunk) size in
     let names_is : chunks + c.div_ceil.result ≡ name_count s =
-    ap (λ n. n + c.div_ceil.result) chunks_is ∙ ap (λ n. chunk_count s.chunk s.text + n) (c.div_ceil.ensures ∙ ap (λ n. div_ceil n s.width) chunks_is) in
+    ap (λ n. n + c.div_ceil.result) chunks_is ∙ ap (λ n. chunk_count s.chunk (length s.text) + n) (c.div_ceil.ensures ∙ ap (λ n. div_ceil n s.width) chunks_is) in
     let created_is : created ≡ create_io s = c.io_of-created.ensures ∙ ap (io_made 0) names_is in
     let read_is : read ≡ read_io s = c.io_of-read.ensures ∙ ap (λ n. io_made n 0) chunks_is in
-    let bytes_is : bytes ≡ Bytes 0 (length s.text) (chunk_count s.chunk s.text) (sha256 s.text) =
+    let bytes_is : bytes ≡ Bytes 0 (length s.text) (chunk_count s.chunk (length s.text)) (sha256 s.text) =
     ap (λ n. Bytes 0 n chunks c.digest_of.result) size_again ∙ ap (λ n. Bytes 0 (length s.text) n c.digest_of.result) chunks_is
-    ∙ ap (Bytes 0 (length s.text) (chunk_count s.chunk s.text)) (c.digest_of.ensures ∙ ap sha256 c.deref.ensures.value) in
+    ∙ ap (Bytes 0 (length s.text) (chunk_count s.chunk (length s.text))) (c.digest_of.ensures ∙ ap sha256 c.deref.ensures.value) in
     let rest_is : c.plus.result ≡ add_io (read_io s) no_io =
     c.plus.ensures ∙ ap (λ a. add_io a c.io_of.result) read_is ∙ ap (add_io (read_io s)) c.io_of.ensures in
     let total_is : total ≡ add_io (create_io s) (add_io (read_io s) no_io) =
@@ -52,8 +52,8 @@ returns c =
     ∙ ap (λ x. pieces x read_name bytes created read total none) c.deref-2.ensures.value
     ∙ ap (λ x. pieces s.name x bytes created read total none) c.deref-3.ensures.value
     ∙ ap (λ x. pieces s.name s.name x created read total none) bytes_is
-    ∙ ap (λ x. pieces s.name s.name (Bytes 0 (length s.text) (chunk_count s.chunk s.text) (sha256 s.text)) x read total none) created_is
-    ∙ ap (λ x. pieces s.name s.name (Bytes 0 (length s.text) (chunk_count s.chunk s.text) (sha256 s.text)) (create_io s) x total none) read_is
-    ∙ ap (λ x. pieces s.name s.name (Bytes 0 (length s.text) (chunk_count s.chunk s.text) (sha256 s.text)) (create_io s) (read_io s) x none) total_is
-    ∙ ap (pieces s.name s.name (Bytes 0 (length s.text) (chunk_count s.chunk s.text) (sha256 s.text)) (create_io s) (read_io s) (add_io (create_io s) (add_io (read_io s) no_io))) c.io_of-2.ensures
+    ∙ ap (λ x. pieces s.name s.name (Bytes 0 (length s.text) (chunk_count s.chunk (length s.text)) (sha256 s.text)) x read total none) created_is
+    ∙ ap (λ x. pieces s.name s.name (Bytes 0 (length s.text) (chunk_count s.chunk (length s.text)) (sha256 s.text)) (create_io s) x total none) read_is
+    ∙ ap (λ x. pieces s.name s.name (Bytes 0 (length s.text) (chunk_count s.chunk (length s.text)) (sha256 s.text)) (create_io s) (read_io s) x none) total_is
+    ∙ ap (pieces s.name s.name (Bytes 0 (length s.text) (chunk_count s.chunk (length s.text)) (sha256 s.text)) (create_io s) (read_io s) (add_io (create_io s) (add_io (read_io s) no_io))) c.io_of-2.ensures
     ∙ pieces_text s

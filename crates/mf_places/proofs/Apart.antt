@@ -6,7 +6,9 @@ use Rattle.mf_shape.specs.Stages.{width_at, parities_at, copies_at, max_width, m
 use Rattle.mf_shape.proofs.Widths.{width_at-le-max_width, one-le-max_width}
 use Rattle.mf_places.specs.declared.Name.{Name}
 use Rattle.mf_places.specs.declared.Name.TheVariants as name
-use Rattle.mf_places.specs.Layout.{Layout, IsLayout, IsApart, stripe_of, column_of}
+use Rattle.mf_places.specs.Facts.{BookFacts, IsBook}
+use Rattle.mf_places.specs.Generations.{stripe_of}
+use Rattle.mf_places.specs.Placement.{IsApart, column_of}
 use Rattle.mf_places.proofs.Held.{Holds, Holds-from, copies_at-le-first, parities_at-le-first, width_at-le-max_copied}
 
 -- numbers of one quotient are nearer than the divisor
@@ -82,93 +84,93 @@ same-place copied k widest (suc most) i j e f pos wide narrow room ij ji he hf s
 
 -- ---- what a shape says of generation g
 
-record Room (l : Layout) (g : ℕ) : Type 0 where
-  pub widest : 0 < max_width l.stages
-  pub width : 0 < width_at l.stages g
-  pub wide : width_at l.stages g ≤ max_width l.stages
-  pub narrow : 0 < copies_at l.stages g → width_at l.stages g ≤ max_copied_width l.stages
-  pub copies : 0 < copies_at l.stages g → (copies_at l.stages g + 1) * max_copied_width l.stages ≤ max_width l.stages
-  pub parities : parities_at l.stages g ≤ parities_at l.stages 0
-  pub servers : max_width l.stages + parities_at l.stages 0 ≤ l.servers
+record Room (b : BookFacts) (g : ℕ) : Type 0 where
+  pub widest : 0 < max_width b.shape.stages
+  pub width : 0 < width_at b.shape.stages g
+  pub wide : width_at b.shape.stages g ≤ max_width b.shape.stages
+  pub narrow : 0 < copies_at b.shape.stages g → width_at b.shape.stages g ≤ max_copied_width b.shape.stages
+  pub copies : 0 < copies_at b.shape.stages g → (copies_at b.shape.stages g + 1) * max_copied_width b.shape.stages ≤ max_width b.shape.stages
+  pub parities : parities_at b.shape.stages g ≤ parities_at b.shape.stages 0
+  pub servers : max_width b.shape.stages + parities_at b.shape.stages 0 ≤ b.shape.servers
 
-room_for : (l : Layout) → IsLayout l → (g : ℕ) → g < length l.stages → Room l g
-room_for l layout g below =
-    let chain = layout.shape.chain in
+room_for : (b : BookFacts) → IsBook b → (g : ℕ) → g < length b.shape.stages → Room b g
+room_for b book g below =
+    let chain = book.shape.chain in
     let fewer = copies_at-le-first chain g below in
     record {
       widest = one-le-max_width chain;
       width = (chain.widths g below).0;
-      wide = width_at-le-max_width l.stages g below;
-      narrow = width_at-le-max_copied l.stages g below;
+      wide = width_at-le-max_width b.shape.stages g below;
+      narrow = width_at-le-max_copied b.shape.stages g below;
       copies = λ some.
-          let all = layout.shape.copies (omega arith) in
-          let more : (copies_at l.stages g + 1) * max_copied_width l.stages ≤ (copies_at l.stages 0 + 1) * max_copied_width l.stages = mul-le-mul_right (max_copied_width l.stages) (omega arith) in
+          let all = book.shape.copies (omega arith) in
+          let more : (copies_at b.shape.stages g + 1) * max_copied_width b.shape.stages ≤ (copies_at b.shape.stages 0 + 1) * max_copied_width b.shape.stages = mul-le-mul_right (max_copied_width b.shape.stages) (omega arith) in
           omega arith;
       parities = parities_at-le-first chain g below;
-      servers = layout.shape.servers.0;
+      servers = book.shape.servers.0;
     }
 
 -- copy e of chunk i stands in this column
-column-data : (l : Layout) (i : ℕ) → column_of l (name.Data i) ≡ place (max_copied_width l.stages) i 0 % max_width l.stages
-column-data l i = ap (λ n. n % max_width l.stages) (omega arith)
+column-data : (b : BookFacts) (i : ℕ) → column_of b (name.Data i) ≡ place (max_copied_width b.shape.stages) i 0 % max_width b.shape.stages
+column-data b i = ap (λ n. n % max_width b.shape.stages) (omega arith)
 
-chunk-place : (l : Layout) (g : ℕ) → Room l g → (i j e f : ℕ) → i / width_at l.stages g ≡ j / width_at l.stages g → e ≤ copies_at l.stages g → f ≤ copies_at l.stages g
-    → place (max_copied_width l.stages) i e % max_width l.stages ≡ place (max_copied_width l.stages) j f % max_width l.stages → IsOne i j e f
-chunk-place l g room i j e f stripe he hf same =
-    same-place (max_copied_width l.stages) (width_at l.stages g) (max_width l.stages) (copies_at l.stages g) i j e f
+chunk-place : (b : BookFacts) (g : ℕ) → Room b g → (i j e f : ℕ) → i / width_at b.shape.stages g ≡ j / width_at b.shape.stages g → e ≤ copies_at b.shape.stages g → f ≤ copies_at b.shape.stages g
+    → place (max_copied_width b.shape.stages) i e % max_width b.shape.stages ≡ place (max_copied_width b.shape.stages) j f % max_width b.shape.stages → IsOne i j e f
+chunk-place b g room i j e f stripe he hf same =
+    same-place (max_copied_width b.shape.stages) (width_at b.shape.stages g) (max_width b.shape.stages) (copies_at b.shape.stages g) i j e f
     room.widest room.wide room.narrow room.copies
-    (near i j (width_at l.stages g) room.width stripe) (near j i (width_at l.stages g) room.width (sym stripe)) he hf same
+    (near i j (width_at b.shape.stages g) room.width stripe) (near j i (width_at b.shape.stages g) room.width (sym stripe)) he hf same
 
 -- the columns of one stripe are apart
-one-column : (l : Layout) (g : ℕ) → Room l g → (x y : Name) → Holds l g x → Holds l g y → stripe_of l g x ≡ stripe_of l g y → column_of l x ≡ column_of l y → x ≡ y
-one-column l g room (name.Data i) (name.Data j) hx hy stripe column =
-    let few : 0 ≤ copies_at l.stages g = omega arith in
-    let one = chunk-place l g room i j 0 0 stripe few few (sym (column-data l i) ∙ column ∙ column-data l j) in
+one-column : (b : BookFacts) (g : ℕ) → Room b g → (x y : Name) → Holds b g x → Holds b g y → stripe_of b g x ≡ stripe_of b g y → column_of b x ≡ column_of b y → x ≡ y
+one-column b g room (name.Data i) (name.Data j) hx hy stripe column =
+    let few : 0 ≤ copies_at b.shape.stages g = omega arith in
+    let one = chunk-place b g room i j 0 0 stripe few few (sym (column-data b i) ∙ column ∙ column-data b j) in
     ap (λ n. name.Data n) one.chunk
-one-column l g room (name.Data i) (name.Copy d j) hx hy stripe column =
-    let none : 0 ≤ copies_at l.stages g = omega arith in
-    let few : d + 1 ≤ copies_at l.stages g = omega (arith, hy.0) in
-    let one = chunk-place l g room i j 0 (d + 1) stripe none few (sym (column-data l i) ∙ column) in
+one-column b g room (name.Data i) (name.Copy d j) hx hy stripe column =
+    let none : 0 ≤ copies_at b.shape.stages g = omega arith in
+    let few : d + 1 ≤ copies_at b.shape.stages g = omega (arith, hy.0) in
+    let one = chunk-place b g room i j 0 (d + 1) stripe none few (sym (column-data b i) ∙ column) in
     absurd (omega (arith, one.copy))
-one-column l g room (name.Copy c i) (name.Data j) hx hy stripe column =
-    let none : 0 ≤ copies_at l.stages g = omega arith in
-    let few : c + 1 ≤ copies_at l.stages g = omega (arith, hx.0) in
-    let one = chunk-place l g room i j (c + 1) 0 stripe few none (column ∙ column-data l j) in
+one-column b g room (name.Copy c i) (name.Data j) hx hy stripe column =
+    let none : 0 ≤ copies_at b.shape.stages g = omega arith in
+    let few : c + 1 ≤ copies_at b.shape.stages g = omega (arith, hx.0) in
+    let one = chunk-place b g room i j (c + 1) 0 stripe few none (column ∙ column-data b j) in
     absurd (omega (arith, one.copy))
-one-column l g room (name.Copy c i) (name.Copy d j) hx hy stripe column =
-    let few_c : c + 1 ≤ copies_at l.stages g = omega (arith, hx.0) in
-    let few_d : d + 1 ≤ copies_at l.stages g = omega (arith, hy.0) in
-    let one = chunk-place l g room i j (c + 1) (d + 1) stripe few_c few_d column in
+one-column b g room (name.Copy c i) (name.Copy d j) hx hy stripe column =
+    let few_c : c + 1 ≤ copies_at b.shape.stages g = omega (arith, hx.0) in
+    let few_d : d + 1 ≤ copies_at b.shape.stages g = omega (arith, hy.0) in
+    let one = chunk-place b g room i j (c + 1) (d + 1) stripe few_c few_d column in
     let copy : c ≡ d = omega (arith, one.copy) in
     let chunk : i ≡ j = one.chunk in
     cc
-one-column l g room (name.Data i) (name.Parity w j p) hx hy stripe column =
+one-column b g room (name.Data i) (name.Parity w j p) hx hy stripe column =
     let low = mod-lt i room.widest in absurd (omega arith)
-one-column l g room (name.Copy c i) (name.Parity w j p) hx hy stripe column =
-    let low = mod-lt (i + (c + 1) * max_copied_width l.stages) room.widest in absurd (omega arith)
-one-column l g room (name.Parity w j p) (name.Data i) hx hy stripe column =
+one-column b g room (name.Copy c i) (name.Parity w j p) hx hy stripe column =
+    let low = mod-lt (i + (c + 1) * max_copied_width b.shape.stages) room.widest in absurd (omega arith)
+one-column b g room (name.Parity w j p) (name.Data i) hx hy stripe column =
     let low = mod-lt i room.widest in absurd (omega arith)
-one-column l g room (name.Parity w j p) (name.Copy c i) hx hy stripe column =
-    let low = mod-lt (i + (c + 1) * max_copied_width l.stages) room.widest in absurd (omega arith)
-one-column l g room (name.Parity w j p) (name.Parity v k r) hx hy stripe column =
+one-column b g room (name.Parity w j p) (name.Copy c i) hx hy stripe column =
+    let low = mod-lt (i + (c + 1) * max_copied_width b.shape.stages) room.widest in absurd (omega arith)
+one-column b g room (name.Parity w j p) (name.Parity v k r) hx hy stripe column =
     let width : w ≡ v = hx.0 ∙ sym hy.0 in
     let point : p ≡ r = omega arith in
     cc
 
 -- a held name's column is one of the servers
-column-below : (l : Layout) (g : ℕ) → Room l g → (x : Name) → Holds l g x → column_of l x < l.servers
-column-below l g room (name.Data i) h = let low = mod-lt i room.widest in let fits = room.servers in omega arith
-column-below l g room (name.Copy c i) h = let low = mod-lt (i + (c + 1) * max_copied_width l.stages) room.widest in let fits = room.servers in omega arith
-column-below l g room (name.Parity w j p) h = let fits = room.servers in let few = room.parities in let mine = h.2 in omega arith
+column-below : (b : BookFacts) (g : ℕ) → Room b g → (x : Name) → Holds b g x → column_of b x < b.shape.servers
+column-below b g room (name.Data i) h = let low = mod-lt i room.widest in let fits = room.servers in omega arith
+column-below b g room (name.Copy c i) h = let low = mod-lt (i + (c + 1) * max_copied_width b.shape.stages) room.widest in let fits = room.servers in omega arith
+column-below b g room (name.Parity w j p) h = let fits = room.servers in let few = room.parities in let mine = h.2 in omega arith
 
-pub IsApart-from : (l : Layout) → IsLayout l → (x : Name) → IsApart l x
-IsApart-from l layout x = record {
+pub IsApart-from : (b : BookFacts) → IsBook b → (x : Name) → IsApart b x
+IsApart-from b book x = record {
   apart = λ g y below hx hy stripe server.
-      let room = room_for l layout g below in
-      let held_x = Holds-from l g x hx in
-      let held_y = Holds-from l g y hy in
-      let low_x = column-below l g room x held_x in
-      let low_y = column-below l g room y held_y in
-      let sum : l.file + column_of l x ≡ l.file + column_of l y = same-mod _ _ l.servers (omega arith) server (omega arith) (omega arith) in
-      one-column l g room x y held_x held_y stripe (omega arith);
+      let room = room_for b book g below in
+      let held_x = Holds-from b g x hx in
+      let held_y = Holds-from b g y hy in
+      let low_x = column-below b g room x held_x in
+      let low_y = column-below b g room y held_y in
+      let sum : b.file + column_of b x ≡ b.file + column_of b y = same-mod _ _ b.shape.servers (omega arith) server (omega arith) (omega arith) in
+      one-column b g room x y held_x held_y stripe (omega arith);
 }

@@ -11,7 +11,7 @@ use Rattle.std.specs.Int.{div_ceil}
 use Rattle.mf_shape.specs.declared.Stage.{Stage}
 use Rattle.mf_shape.specs.Stages.{no_stage, stage_at, width_at, parities_at, copies_at, max_width}
 use Rattle.mf_shape.specs.Chain.{IsChain}
-use Rattle.mf_places.specs.Layout.{max_parities}
+use Rattle.mf_places.specs.Names.{max_parities}
 use Rattle.mf_places.specs.Rows.{parities_in, parities_below, first_in, IsFirsts}
 
 -- a stage's parities where it is of the width

@@ -7,24 +7,26 @@ use Rattle.mf_shape.specs.Chain.{IsChain}
 use Rattle.mf_shape.proofs.Widths.{copied_width-le-max}
 use Rattle.mf_places.specs.declared.Name.{Name}
 use Rattle.mf_places.specs.declared.Name.TheVariants as name
-use Rattle.mf_places.specs.Layout.{Layout, chunks_of, stripes_of, parities_of, HasName, holds}
+use Rattle.mf_places.specs.Facts.{BookFacts, chunks_of}
+use Rattle.mf_places.specs.Names.{stripes_of, parities_of, HasName}
+use Rattle.mf_places.specs.Generations.{holds}
 use Rattle.mf_places.proofs.Counts.{parities_at-le-max}
 
 -- generation g holds the name, as a fact
-abbrev pub Holds : Layout → ℕ → Name → Type 0
-Holds l g (name.Data i) = i < chunks_of l
-Holds l g (name.Copy c i) = (c < copies_at l.stages g) × (i < chunks_of l)
-Holds l g (name.Parity width j p) = (width ≡ width_at l.stages g) × (j < stripes_of l width) × (p < parities_at l.stages g)
+abbrev pub Holds : BookFacts → ℕ → Name → Type 0
+Holds b g (name.Data i) = i < chunks_of b
+Holds b g (name.Copy c i) = (c < copies_at b.shape.stages g) × (i < chunks_of b)
+Holds b g (name.Parity width j p) = (width ≡ width_at b.shape.stages g) × (j < stripes_of b width) × (p < parities_at b.shape.stages g)
 
-pub Holds-from : (l : Layout) (g : ℕ) (x : Name) → IsTrue (holds l g x) → Holds l g x
-Holds-from l g (name.Data i) h = grind (arith, nat_tests)
-Holds-from l g (name.Copy c i) h = grind (arith, nat_tests)
-Holds-from l g (name.Parity width j p) h = grind (arith, nat_tests)
+pub Holds-from : (b : BookFacts) (g : ℕ) (x : Name) → IsTrue (holds b g x) → Holds b g x
+Holds-from b g (name.Data i) h = grind (arith, nat_tests)
+Holds-from b g (name.Copy c i) h = grind (arith, nat_tests)
+Holds-from b g (name.Parity width j p) h = grind (arith, nat_tests)
 
-pub holds-from : (l : Layout) (g : ℕ) (x : Name) → Holds l g x → IsTrue (holds l g x)
-holds-from l g (name.Data i) h = grind (arith, nat_tests)
-holds-from l g (name.Copy c i) h = grind (arith, nat_tests)
-holds-from l g (name.Parity width j p) h = grind (arith, nat_tests)
+pub holds-from : (b : BookFacts) (g : ℕ) (x : Name) → Holds b g x → IsTrue (holds b g x)
+holds-from b g (name.Data i) h = grind (arith, nat_tests)
+holds-from b g (name.Copy c i) h = grind (arith, nat_tests)
+holds-from b g (name.Parity width j p) h = grind (arith, nat_tests)
 
 -- ---- along a chain
 
@@ -51,9 +53,9 @@ width_at-le-max_copied s g h some =
     omega (arith, copied_width-own (stage_at s g) some, copied_width-le-max s g h)
 
 -- what a generation holds the file has
-pub HasName-from_holds : (l : Layout) → IsChain l.stages → (g : ℕ) → g < length l.stages → (x : Name) → Holds l g x → HasName l x
-HasName-from_holds l chain g below (name.Data i) h = h
-HasName-from_holds l chain g below (name.Copy c i) h = (omega (arith, copies_at-le-first chain g below, h.0), h.1)
-HasName-from_holds l chain g below (name.Parity width j p) h =
-    let P : ℕ → Type 0 = λ w. p < parities_of l w in
-    (h.1, subst P (sym h.0) (omega (arith, parities_at-le-max l.stages g below, h.2)))
+pub HasName-from_holds : (b : BookFacts) → IsChain b.shape.stages → (g : ℕ) → g < length b.shape.stages → (x : Name) → Holds b g x → HasName b x
+HasName-from_holds b chain g below (name.Data i) h = h
+HasName-from_holds b chain g below (name.Copy c i) h = (omega (arith, copies_at-le-first chain g below, h.0), h.1)
+HasName-from_holds b chain g below (name.Parity width j p) h =
+    let P : ℕ → Type 0 = λ w. p < parities_of b w in
+    (h.1, subst P (sym h.0) (omega (arith, parities_at-le-max b.shape.stages g below, h.2)))

@@ -6,3 +6,5 @@ pub mod Held
 pub mod Apart
 pub mod Stripes
 pub mod Placed
+pub mod Passing
+pub mod Sets

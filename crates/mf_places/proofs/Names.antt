@@ -1,8 +1,8 @@
--- The names of a layout by their numbers.
+-- The names of a book by their numbers.
 use Rattle.std.proofs.Common.{◌≡◌, ℕ, suc, zero, ◌+◌, ◌-◌, ◌*◌, ◌/◌, ◌%◌, ◌<◌, ◌≤◌, List, [], ◌∷◌, ◌++◌, length, take, filter, get_or, cond, Bool, true, false, Option, Some, None, IfSome, IfNone, OnSome, All, refl, ap, ◌∙◌, sym, subst, ⊎_elim, arith, length-append}
 use Rattle.std.proofs.Math.Nat.{mul_comm}
-use Rattle.std.proofs.lemmas.Bool.{cases_lt, cond_both}
-use Rattle.std.proofs.lemmas.List.Elements.{filter_more, All-nil, All-cons, All-head, All-tail, All-same, All-from_get_or}
+use Rattle.std.proofs.lemmas.Bool.{cases_lt}
+use Rattle.std.proofs.lemmas.List.Elements.{All-filter, filter_more, All-same, All-from_get_or}
 use Rattle.std.proofs.lemmas.List.{take_all, append-nil, get_or_append_left, get_or-append-add}
 use Rattle.std.proofs.lemmas.List.FromFn.{length-range_with_len, get_or-range_with_len, length-map-range_with_len, get_or-map-range_with_len}
 use Rattle.std.proofs.lemmas.List.Concat.{get_or-flat_map}
@@ -11,7 +11,8 @@ use Rattle.std.specs.List.{flat_map, range_with_len}
 use Rattle.mf_shape.specs.Stages.{copies_at, max_width}
 use Rattle.mf_places.specs.declared.Name.{Name}
 use Rattle.mf_places.specs.declared.Name.TheVariants as name
-use Rattle.mf_places.specs.Layout.{Layout, chunks_of, stripes_of, parities_of, data_names, copies_named, copy_names, stripe_parities, width_parities, parity_names, names, count_of, name_at, HasName}
+use Rattle.mf_places.specs.Facts.{BookFacts, chunks_of}
+use Rattle.mf_places.specs.Names.{stripes_of, parities_of, data_names, copies_named, copy_names, stripe_parities, width_parities, parity_names, all_names, count_of, name_at, HasName}
 use Rattle.mf_places.specs.Rows.{parities_in, parities_below, first_in, number_of, IsNumber}
 use Rattle.mf_places.proofs.Ranges.{flat_map-more, take-range}
 use Rattle.mf_places.proofs.Counts.{max_parities-some, parities_below-grows, parities_below-find}
@@ -37,152 +38,152 @@ at-flat_map f n i j before d lt within e =
 
 -- ---- how many names there are
 
-length-data : (l : Layout) → length (data_names l) ≡ chunks_of l
+length-data : (b : BookFacts) → length (data_names b) ≡ chunks_of b
 unfolding data_names
-length-data l = length-map-range_with_len _ 0 (chunks_of l)
+length-data b = length-map-range_with_len _ 0 (chunks_of b)
 
-length-copies_named : (l : Layout) (c : ℕ) → length (copies_named l c) ≡ chunks_of l
+length-copies_named : (b : BookFacts) (c : ℕ) → length (copies_named b c) ≡ chunks_of b
 unfolding copies_named
-length-copies_named l c = length-map-range_with_len _ 0 (chunks_of l)
+length-copies_named b c = length-map-range_with_len _ 0 (chunks_of b)
 
-length-copies_below : (l : Layout) (c : ℕ) → length (flat_map (copies_named l) (range_with_len 0 c)) ≡ c * chunks_of l
-length-copies_below l c = length-flat_map_even (copies_named l) (chunks_of l) (length-copies_named l) c
+length-copies_below : (b : BookFacts) (c : ℕ) → length (flat_map (copies_named b) (range_with_len 0 c)) ≡ c * chunks_of b
+length-copies_below b c = length-flat_map_even (copies_named b) (chunks_of b) (length-copies_named b) c
 
-length-copies : (l : Layout) → length (copy_names l) ≡ copies_at l.stages 0 * chunks_of l
+length-copies : (b : BookFacts) → length (copy_names b) ≡ copies_at b.shape.stages 0 * chunks_of b
 unfolding copy_names
-length-copies l = length-copies_below l (copies_at l.stages 0)
+length-copies b = length-copies_below b (copies_at b.shape.stages 0)
 
-length-stripe : (l : Layout) (width j : ℕ) → length (stripe_parities l width j) ≡ parities_of l width
+length-stripe : (b : BookFacts) (width j : ℕ) → length (stripe_parities b width j) ≡ parities_of b width
 unfolding stripe_parities
-length-stripe l width j = length-map-range_with_len _ 0 (parities_of l width)
+length-stripe b width j = length-map-range_with_len _ 0 (parities_of b width)
 
-length-stripes_below : (l : Layout) (width j : ℕ) → length (flat_map (stripe_parities l width) (range_with_len 0 j)) ≡ j * parities_of l width
-length-stripes_below l width j = length-flat_map_even (stripe_parities l width) (parities_of l width) (length-stripe l width) j
+length-stripes_below : (b : BookFacts) (width j : ℕ) → length (flat_map (stripe_parities b width) (range_with_len 0 j)) ≡ j * parities_of b width
+length-stripes_below b width j = length-flat_map_even (stripe_parities b width) (parities_of b width) (length-stripe b width) j
 
-length-width : (l : Layout) (width : ℕ) → length (width_parities l width) ≡ parities_in (chunks_of l) l.stages width
+length-width : (b : BookFacts) (width : ℕ) → length (width_parities b width) ≡ parities_in (chunks_of b) b.shape.stages width
 unfolding width_parities
-length-width l width = length-stripes_below l width (stripes_of l width)
+length-width b width = length-stripes_below b width (stripes_of b width)
 
-length-widths_below : (l : Layout) (width : ℕ) → length (flat_map (width_parities l) (range_with_len 0 width)) ≡ parities_below (chunks_of l) l.stages width
-length-widths_below l zero = refl
-length-widths_below l (suc width) =
+length-widths_below : (b : BookFacts) (width : ℕ) → length (flat_map (width_parities b) (range_with_len 0 width)) ≡ parities_below (chunks_of b) b.shape.stages width
+length-widths_below b zero = refl
+length-widths_below b (suc width) =
     let e : suc width ≡ width + 1 = omega arith in
-    ap (λ i. length (flat_map (width_parities l) (range_with_len 0 i))) e ∙ ap length (flat_map-more (width_parities l) width)
-    ∙ omega (arith, length-append (flat_map (width_parities l) (range_with_len 0 width)) (width_parities l width), length-widths_below l width, length-width l width)
+    ap (λ i. length (flat_map (width_parities b) (range_with_len 0 i))) e ∙ ap length (flat_map-more (width_parities b) width)
+    ∙ omega (arith, length-append (flat_map (width_parities b) (range_with_len 0 width)) (width_parities b width), length-widths_below b width, length-width b width)
 
-length-parities : (l : Layout) → length (parity_names l) ≡ parities_below (chunks_of l) l.stages (max_width l.stages + 1)
+length-parities : (b : BookFacts) → length (parity_names b) ≡ parities_below (chunks_of b) b.shape.stages (max_width b.shape.stages + 1)
 unfolding parity_names
-length-parities l = length-widths_below l (max_width l.stages + 1)
+length-parities b = length-widths_below b (max_width b.shape.stages + 1)
 
-length-front : (l : Layout) → length (data_names l ++ copy_names l) ≡ first_in (chunks_of l) l.stages 0
-length-front l = omega (arith, length-append (data_names l) (copy_names l), length-data l, length-copies l)
+length-front : (b : BookFacts) → length (data_names b ++ copy_names b) ≡ first_in (chunks_of b) b.shape.stages 0
+length-front b = omega (arith, length-append (data_names b) (copy_names b), length-data b, length-copies b)
 
 -- the number behind the last
-pub count_of-is : (l : Layout) → count_of l ≡ first_in (chunks_of l) l.stages (max_width l.stages + 1)
-unfolding count_of names
-count_of-is l =
-    omega (arith, length-append (data_names l ++ copy_names l) (parity_names l), length-front l, length-parities l)
+pub count_of-is : (b : BookFacts) → count_of b ≡ first_in (chunks_of b) b.shape.stages (max_width b.shape.stages + 1)
+unfolding count_of all_names
+count_of-is b =
+    omega (arith, length-append (data_names b ++ copy_names b) (parity_names b), length-front b, length-parities b)
 
 -- ---- each name stands at its number
 
 -- a name stands at a number
-pub record IsAt (l : Layout) (x : Name) (n : ℕ) : Type 0 where
-  pub below : n < count_of l
-  pub at : name_at l n ≡ x
+pub record IsAt (b : BookFacts) (x : Name) (n : ℕ) : Type 0 where
+  pub below : n < count_of b
+  pub at : name_at b n ≡ x
 
-at-data : (l : Layout) (i : ℕ) → i < chunks_of l → get_or (data_names l) i (name.Data 0) ≡ name.Data i
+at-data : (b : BookFacts) (i : ℕ) → i < chunks_of b → get_or (data_names b) i (name.Data 0) ≡ name.Data i
 unfolding data_names
-at-data l i h = get_or-map-range_with_len (λ (k : ℕ). name.Data k) 0 (chunks_of l) i i (name.Data 0) h (omega arith)
+at-data b i h = get_or-map-range_with_len (λ (k : ℕ). name.Data k) 0 (chunks_of b) i i (name.Data 0) h (omega arith)
 
-at-copies_named : (l : Layout) (c i : ℕ) → i < chunks_of l → get_or (copies_named l c) i (name.Data 0) ≡ name.Copy c i
+at-copies_named : (b : BookFacts) (c i : ℕ) → i < chunks_of b → get_or (copies_named b c) i (name.Data 0) ≡ name.Copy c i
 unfolding copies_named
-at-copies_named l c i h = get_or-map-range_with_len (λ (k : ℕ). name.Copy c k) 0 (chunks_of l) i i (name.Data 0) h (omega arith)
+at-copies_named b c i h = get_or-map-range_with_len (λ (k : ℕ). name.Copy c k) 0 (chunks_of b) i i (name.Data 0) h (omega arith)
 
-at-copy : (l : Layout) (c i : ℕ) → c < copies_at l.stages 0 → i < chunks_of l → get_or (copy_names l) (c * chunks_of l + i) (name.Data 0) ≡ name.Copy c i
+at-copy : (b : BookFacts) (c i : ℕ) → c < copies_at b.shape.stages 0 → i < chunks_of b → get_or (copy_names b) (c * chunks_of b + i) (name.Data 0) ≡ name.Copy c i
 unfolding copy_names
-at-copy l c i hc hi =
-    at-flat_map (copies_named l) (copies_at l.stages 0) c i (c * chunks_of l) (name.Data 0) hc
-    (omega (arith, length-copies_named l c)) (length-copies_below l c)
-    ∙ at-copies_named l c i hi
+at-copy b c i hc hi =
+    at-flat_map (copies_named b) (copies_at b.shape.stages 0) c i (c * chunks_of b) (name.Data 0) hc
+    (omega (arith, length-copies_named b c)) (length-copies_below b c)
+    ∙ at-copies_named b c i hi
 
-at-stripe : (l : Layout) (width j p : ℕ) → p < parities_of l width → get_or (stripe_parities l width j) p (name.Data 0) ≡ name.Parity width j p
+at-stripe : (b : BookFacts) (width j p : ℕ) → p < parities_of b width → get_or (stripe_parities b width j) p (name.Data 0) ≡ name.Parity width j p
 unfolding stripe_parities
-at-stripe l width j p h = get_or-map-range_with_len (λ (k : ℕ). name.Parity width j k) 0 (parities_of l width) p p (name.Data 0) h (omega arith)
+at-stripe b width j p h = get_or-map-range_with_len (λ (k : ℕ). name.Parity width j k) 0 (parities_of b width) p p (name.Data 0) h (omega arith)
 
-at-width : (l : Layout) (width j p : ℕ) → j < stripes_of l width → p < parities_of l width
-    → get_or (width_parities l width) (j * parities_of l width + p) (name.Data 0) ≡ name.Parity width j p
+at-width : (b : BookFacts) (width j p : ℕ) → j < stripes_of b width → p < parities_of b width
+    → get_or (width_parities b width) (j * parities_of b width + p) (name.Data 0) ≡ name.Parity width j p
 unfolding width_parities
-at-width l width j p hj hp =
-    at-flat_map (stripe_parities l width) (stripes_of l width) j p (j * parities_of l width) (name.Data 0) hj
-    (omega (arith, length-stripe l width j)) (length-stripes_below l width j)
-    ∙ at-stripe l width j p hp
+at-width b width j p hj hp =
+    at-flat_map (stripe_parities b width) (stripes_of b width) j p (j * parities_of b width) (name.Data 0) hj
+    (omega (arith, length-stripe b width j)) (length-stripes_below b width j)
+    ∙ at-stripe b width j p hp
 
 -- the place of a parity among those of its width
-place-width : (l : Layout) (width j p : ℕ) → j < stripes_of l width → p < parities_of l width
-    → j * parities_of l width + p < parities_in (chunks_of l) l.stages width
-place-width l width j p hj hp =
-    let h = mul-add-lt j (parities_of l width) p (stripes_of l width) hj hp in
-    omega (arith, h, mul_comm (parities_of l width) (stripes_of l width))
+place-width : (b : BookFacts) (width j p : ℕ) → j < stripes_of b width → p < parities_of b width
+    → j * parities_of b width + p < parities_in (chunks_of b) b.shape.stages width
+place-width b width j p hj hp =
+    let h = mul-add-lt j (parities_of b width) p (stripes_of b width) hj hp in
+    omega (arith, h, mul_comm (parities_of b width) (stripes_of b width))
 
-at-parity : (l : Layout) (width j p : ℕ) → j < stripes_of l width → p < parities_of l width
-    → get_or (parity_names l) (parities_below (chunks_of l) l.stages width + (j * parities_of l width + p)) (name.Data 0) ≡ name.Parity width j p
+at-parity : (b : BookFacts) (width j p : ℕ) → j < stripes_of b width → p < parities_of b width
+    → get_or (parity_names b) (parities_below (chunks_of b) b.shape.stages width + (j * parities_of b width + p)) (name.Data 0) ≡ name.Parity width j p
 unfolding parity_names
-at-parity l width j p hj hp =
-    let wide = max_parities-some width l.stages (omega arith) in
-    at-flat_map (width_parities l) (max_width l.stages + 1) width (j * parities_of l width + p) (parities_below (chunks_of l) l.stages width) (name.Data 0) (omega arith)
-    (rw length-width (place-width l width j p hj hp)) (length-widths_below l width)
-    ∙ at-width l width j p hj hp
+at-parity b width j p hj hp =
+    let wide = max_parities-some width b.shape.stages (omega arith) in
+    at-flat_map (width_parities b) (max_width b.shape.stages + 1) width (j * parities_of b width + p) (parities_below (chunks_of b) b.shape.stages width) (name.Data 0) (omega arith)
+    (rw length-width (place-width b width j p hj hp)) (length-widths_below b width)
+    ∙ at-width b width j p hj hp
 
 -- a name that a file has stands at its number
-pub IsAt-number : (l : Layout) (x : Name) → HasName l x → IsAt l x (number_of l x)
-unfolding name_at names
-IsAt-number l (name.Data i) h = record {
-  below = omega (arith, count_of-is l);
-  at = get_or_append_left (data_names l ++ copy_names l) (parity_names l) (name.Data 0) i (omega (arith, length-front l))
-      ∙ get_or_append_left (data_names l) (copy_names l) (name.Data 0) i (omega (arith, length-data l))
-      ∙ at-data l i h;
+pub IsAt-number : (b : BookFacts) (x : Name) → HasName b x → IsAt b x (number_of b x)
+unfolding name_at all_names
+IsAt-number b (name.Data i) h = record {
+  below = omega (arith, count_of-is b);
+  at = get_or_append_left (data_names b ++ copy_names b) (parity_names b) (name.Data 0) i (omega (arith, length-front b))
+      ∙ get_or_append_left (data_names b) (copy_names b) (name.Data 0) i (omega (arith, length-data b))
+      ∙ at-data b i h;
 }
-IsAt-number l (name.Copy c i) h =
-    let place : c * chunks_of l + i < copies_at l.stages 0 * chunks_of l = omega (arith, mul-add-lt c (chunks_of l) i (copies_at l.stages 0) h.0 h.1, mul_comm (chunks_of l) (copies_at l.stages 0)) in
-    let e : number_of l (name.Copy c i) ≡ length (data_names l) + (c * chunks_of l + i) = omega (arith, length-data l) in
+IsAt-number b (name.Copy c i) h =
+    let place : c * chunks_of b + i < copies_at b.shape.stages 0 * chunks_of b = omega (arith, mul-add-lt c (chunks_of b) i (copies_at b.shape.stages 0) h.0 h.1, mul_comm (chunks_of b) (copies_at b.shape.stages 0)) in
+    let e : number_of b (name.Copy c i) ≡ length (data_names b) + (c * chunks_of b + i) = omega (arith, length-data b) in
     record {
-      below = omega (arith, count_of-is l);
-      at = get_or_append_left (data_names l ++ copy_names l) (parity_names l) (name.Data 0) (number_of l (name.Copy c i)) (omega (arith, length-front l))
-          ∙ ap (λ n. get_or (data_names l ++ copy_names l) n (name.Data 0)) e
-          ∙ get_or-append-add (data_names l) (copy_names l) (c * chunks_of l + i) (name.Data 0)
-          ∙ at-copy l c i h.0 h.1;
+      below = omega (arith, count_of-is b);
+      at = get_or_append_left (data_names b ++ copy_names b) (parity_names b) (name.Data 0) (number_of b (name.Copy c i)) (omega (arith, length-front b))
+          ∙ ap (λ n. get_or (data_names b ++ copy_names b) n (name.Data 0)) e
+          ∙ get_or-append-add (data_names b) (copy_names b) (c * chunks_of b + i) (name.Data 0)
+          ∙ at-copy b c i h.0 h.1;
     }
-IsAt-number l (name.Parity width j p) h =
-    let wide = max_parities-some width l.stages (omega (arith, h.1)) in
-    let place = place-width l width j p h.0 h.1 in
-    let more = parities_below-grows (chunks_of l) l.stages (suc width) (max_width l.stages + 1) (omega arith) in
-    let e : number_of l (name.Parity width j p) ≡ length (data_names l ++ copy_names l) + (parities_below (chunks_of l) l.stages width + (j * parities_of l width + p)) = omega (arith, length-front l) in
+IsAt-number b (name.Parity width j p) h =
+    let wide = max_parities-some width b.shape.stages (omega (arith, h.1)) in
+    let place = place-width b width j p h.0 h.1 in
+    let more = parities_below-grows (chunks_of b) b.shape.stages (suc width) (max_width b.shape.stages + 1) (omega arith) in
+    let e : number_of b (name.Parity width j p) ≡ length (data_names b ++ copy_names b) + (parities_below (chunks_of b) b.shape.stages width + (j * parities_of b width + p)) = omega (arith, length-front b) in
     record {
-      below = omega (arith, count_of-is l);
-      at = ap (λ n. get_or (data_names l ++ copy_names l ++ parity_names l) n (name.Data 0)) e
-          ∙ get_or-append-add (data_names l ++ copy_names l) (parity_names l) (parities_below (chunks_of l) l.stages width + (j * parities_of l width + p)) (name.Data 0)
-          ∙ at-parity l width j p h.0 h.1;
+      below = omega (arith, count_of-is b);
+      at = ap (λ n. get_or (data_names b ++ copy_names b ++ parity_names b) n (name.Data 0)) e
+          ∙ get_or-append-add (data_names b ++ copy_names b) (parity_names b) (parities_below (chunks_of b) b.shape.stages width + (j * parities_of b width + p)) (name.Data 0)
+          ∙ at-parity b width j p h.0 h.1;
     }
 
 -- ---- each number is a name's
 
 -- a name that a file has, at this number
-pub record IsNamed (l : Layout) (n : ℕ) : Type 0 where
+pub record IsNamed (b : BookFacts) (n : ℕ) : Type 0 where
   pub x : Name
-  pub had : HasName l x
-  pub number : number_of l x ≡ n
+  pub had : HasName b x
+  pub number : number_of b x ≡ n
 
 some_chunk : (m c n : ℕ) → m ≤ n → n < m + c * m → 0 < m
 some_chunk zero c n from below = omega arith
 some_chunk (suc m) c n from below = omega arith
 
-named-copy : (l : Layout) (n : ℕ) → chunks_of l ≤ n → n < chunks_of l + copies_at l.stages 0 * chunks_of l → IsNamed l n
-named-copy l n from below =
-    let m = chunks_of l in
-    let some : 0 < m = some_chunk m (copies_at l.stages 0) n from below in
+named-copy : (b : BookFacts) (n : ℕ) → chunks_of b ≤ n → n < chunks_of b + copies_at b.shape.stages 0 * chunks_of b → IsNamed b n
+named-copy b n from below =
+    let m = chunks_of b in
+    let some : 0 < m = some_chunk m (copies_at b.shape.stages 0) n from below in
     record {
       x = name.Copy ((n - m) / m) ((n - m) % m);
-      had = (div_below (n - m) m (copies_at l.stages 0) some (omega arith), mod_below (n - m) m some);
+      had = (div_below (n - m) m (copies_at b.shape.stages 0) some (omega arith), mod_below (n - m) m some);
       number = omega (arith, div-add-mod' (n - m) m);
     }
 
@@ -190,110 +191,104 @@ some_parity : (j r at : ℕ) → at < j * r → 0 < r
 some_parity j zero at below = omega arith
 some_parity j (suc r) at below = omega arith
 
-named-parity : (l : Layout) (n : ℕ) → first_in (chunks_of l) l.stages 0 ≤ n → n < count_of l → IsNamed l n
-named-parity l n from below =
-    let k = n - first_in (chunks_of l) l.stages 0 in
-    let found = parities_below-find (chunks_of l) l.stages (max_width l.stages + 1) k (omega (arith, count_of-is l)) in
+named-parity : (b : BookFacts) (n : ℕ) → first_in (chunks_of b) b.shape.stages 0 ≤ n → n < count_of b → IsNamed b n
+named-parity b n from below =
+    let k = n - first_in (chunks_of b) b.shape.stages 0 in
+    let found = parities_below-find (chunks_of b) b.shape.stages (max_width b.shape.stages + 1) k (omega (arith, count_of-is b)) in
     let width = found.0 in
-    let r = parities_of l width in
-    let at = k - parities_below (chunks_of l) l.stages width in
-    let below_all : at < stripes_of l width * r = omega (arith, found.2, found.3) in
-    let some : 0 < r = some_parity (stripes_of l width) r at below_all in
+    let r = parities_of b width in
+    let at = k - parities_below (chunks_of b) b.shape.stages width in
+    let below_all : at < stripes_of b width * r = omega (arith, found.2, found.3) in
+    let some : 0 < r = some_parity (stripes_of b width) r at below_all in
     record {
       x = name.Parity width (at / r) (at % r);
-      had = (div_below at r (stripes_of l width) some below_all, mod_below at r some);
+      had = (div_below at r (stripes_of b width) some below_all, mod_below at r some);
       number = omega (arith, div-add-mod' at r, found.2);
     }
 
-pub IsNamed-each : (l : Layout) (n : ℕ) → n < count_of l → IsNamed l n
-IsNamed-each l n below = ⊎_elim
+pub IsNamed-each : (b : BookFacts) (n : ℕ) → n < count_of b → IsNamed b n
+IsNamed-each b n below = ⊎_elim
     (λ front. record { x = name.Data n; had = front; number = refl })
-    (λ behind. ⊎_elim (named-copy l n behind) (λ from. named-parity l n (omega arith) below)
-    (cases_lt n (chunks_of l + copies_at l.stages 0 * chunks_of l)))
-    (cases_lt n (chunks_of l))
+    (λ behind. ⊎_elim (named-copy b n behind) (λ from. named-parity b n (omega arith) below)
+    (cases_lt n (chunks_of b + copies_at b.shape.stages 0 * chunks_of b)))
+    (cases_lt n (chunks_of b))
 
 -- number n is that of name number n, which the file has
-pub number_of-name_at : (l : Layout) (n : ℕ) → n < count_of l → HasName l (name_at l n) × (number_of l (name_at l n) ≡ n)
-number_of-name_at l n below =
-    let named = IsNamed-each l n below in
-    let at : name_at l n ≡ named.x = ap (name_at l) (sym named.number) ∙ (IsAt-number l named.x named.had).at in
-    let P : Name → Type 0 = λ x. HasName l x × (number_of l x ≡ n) in
+pub number_of-name_at : (b : BookFacts) (n : ℕ) → n < count_of b → HasName b (name_at b n) × (number_of b (name_at b n) ≡ n)
+number_of-name_at b n below =
+    let named = IsNamed-each b n below in
+    let at : name_at b n ≡ named.x = ap (name_at b) (sym named.number) ∙ (IsAt-number b named.x named.had).at in
+    let P : Name → Type 0 = λ x. HasName b x × (number_of b x ≡ n) in
     subst P (sym at) (named.had, named.number)
 
 -- what stands at a number is had, with that number
-pub IsNumber-at : (l : Layout) (x : Name) (n : ℕ) → n < count_of l → name_at l n ≡ x → IsNumber l x n
-IsNumber-at l x n below at =
-    let P : Name → Type 0 = λ y. IsNumber l y n in
-    let own = number_of-name_at l n below in
+pub IsNumber-at : (b : BookFacts) (x : Name) (n : ℕ) → n < count_of b → name_at b n ≡ x → IsNumber b x n
+IsNumber-at b x n below at =
+    let P : Name → Type 0 = λ y. IsNumber b y n in
+    let own = number_of-name_at b n below in
     subst P at (record { had = own.0; number = sym own.1 })
 
 -- a name stands at its number, and nowhere else
-pub found-some : (l : Layout) (x : Name) (r : Option ℕ) → IfSome r (IsNumber l x) → IfSome r (λ n. (n < count_of l) × (name_at l n ≡ x))
-found-some l x None h = tt
-found-some l x (Some n) h =
-    let at = IsAt-number l x h.had in
-    let P : ℕ → Type 0 = λ k. (k < count_of l) × (name_at l k ≡ x) in
+pub found-some : (b : BookFacts) (x : Name) (r : Option ℕ) → IfSome r (IsNumber b x) → IfSome r (λ n. (n < count_of b) × (name_at b n ≡ x))
+found-some b x None h = tt
+found-some b x (Some n) h =
+    let at = IsAt-number b x h.had in
+    let P : ℕ → Type 0 = λ k. (k < count_of b) × (name_at b k ≡ x) in
     subst P (sym h.number) (at.below, at.at)
 
-pub found-only : (l : Layout) (x : Name) (r : Option ℕ) → IfNone r (HasName l x → ⊥) → IfSome r (IsNumber l x)
-    → (n : ℕ) → n < count_of l → name_at l n ≡ x → r ≡ Some n
-found-only l x None none some n below at = absurd (none (IsNumber-at l x n below at).had)
-found-only l x (Some k) none some n below at = ap (λ i. Some i) (some.number ∙ sym (IsNumber-at l x n below at).number)
+pub found-only : (b : BookFacts) (x : Name) (r : Option ℕ) → IfNone r (HasName b x → ⊥) → IfSome r (IsNumber b x)
+    → (n : ℕ) → n < count_of b → name_at b n ≡ x → r ≡ Some n
+found-only b x None none some n below at = absurd (none (IsNumber-at b x n below at).had)
+found-only b x (Some k) none some n below at = ap (λ i. Some i) (some.number ∙ sym (IsNumber-at b x n below at).number)
 
-pub found-had : (l : Layout) (x : Name) (r : Option ℕ) → IfSome r (IsNumber l x) → OnSome r (HasName l x)
-found-had l x None h = tt
-found-had l x (Some n) h = h.had
+pub found-had : (b : BookFacts) (x : Name) (r : Option ℕ) → IfSome r (IsNumber b x) → OnSome r (HasName b x)
+found-had b x None h = tt
+found-had b x (Some n) h = h.had
 
 -- what has a number is what stands there
-pub name_at-number : (l : Layout) (x : Name) (n : ℕ) → HasName l x → number_of l x ≡ n → x ≡ name_at l n
-name_at-number l x n had number = sym (IsAt-number l x had).at ∙ ap (name_at l) number
+pub name_at-number : (b : BookFacts) (x : Name) (n : ℕ) → HasName b x → number_of b x ≡ n → x ≡ name_at b n
+name_at-number b x n had number = sym (IsAt-number b x had).at ∙ ap (name_at b) number
 
 -- a number among the copies
-pub name_at-copy : (l : Layout) (n : ℕ) → chunks_of l ≤ n → n < chunks_of l + copies_at l.stages 0 * chunks_of l
-    → name.Copy ((n - chunks_of l) / chunks_of l) ((n - chunks_of l) % chunks_of l) ≡ name_at l n
-name_at-copy l n from below =
-    let m = chunks_of l in
-    let some : 0 < m = some_chunk m (copies_at l.stages 0) n from below in
-    name_at-number l (name.Copy ((n - m) / m) ((n - m) % m)) n
-    (div_below (n - m) m (copies_at l.stages 0) some (omega arith), mod_below (n - m) m some)
+pub name_at-copy : (b : BookFacts) (n : ℕ) → chunks_of b ≤ n → n < chunks_of b + copies_at b.shape.stages 0 * chunks_of b
+    → name.Copy ((n - chunks_of b) / chunks_of b) ((n - chunks_of b) % chunks_of b) ≡ name_at b n
+name_at-copy b n from below =
+    let m = chunks_of b in
+    let some : 0 < m = some_chunk m (copies_at b.shape.stages 0) n from below in
+    name_at-number b (name.Copy ((n - m) / m) ((n - m) % m)) n
+    (div_below (n - m) m (copies_at b.shape.stages 0) some (omega arith), mod_below (n - m) m some)
     (omega (arith, div-add-mod' (n - m) m))
 
 -- ---- a loop over the names
 
-pub filter-next : (l : Layout) (p : Name → Bool) (n : ℕ) → n < count_of l
-    → filter p (take (n + 1) (names l)) ≡ filter p (take n (names l)) ++ cond (p (name_at l n)) (name_at l n ∷ []) []
+pub filter-next : (b : BookFacts) (p : Name → Bool) (n : ℕ) → n < count_of b
+    → filter p (take (n + 1) (all_names b)) ≡ filter p (take n (all_names b)) ++ cond (p (name_at b n)) (name_at b n ∷ []) []
 unfolding name_at count_of
-filter-next l p n below = filter_more p (names l) n (name.Data 0) below
+filter-next b p n below = filter_more p (all_names b) n (name.Data 0) below
 
-pub filter-all : (l : Layout) (p : Name → Bool) (n : ℕ) → count_of l ≤ n → filter p (take n (names l)) ≡ filter p (names l)
+pub filter-all : (b : BookFacts) (p : Name → Bool) (n : ℕ) → count_of b ≤ n → filter p (take n (all_names b)) ≡ filter p (all_names b)
 unfolding count_of
-filter-all l p n end = ap (filter p) (take_all n (names l) end)
+filter-all b p n end = ap (filter p) (take_all n (all_names b) end)
 
 -- name number n is kept, or left out
-pub filter-keeps : (l : Layout) (p : Name → Bool) (n : ℕ) (x : Name) → n < count_of l → x ≡ name_at l n → p x ≡ true
-    → filter p (take (n + 1) (names l)) ≡ filter p (take n (names l)) ++ x ∷ []
-filter-keeps l p n x below at pass =
-    filter-next l p n below ∙ ap (λ y. filter p (take n (names l)) ++ cond (p y) (y ∷ []) []) (sym at)
-    ∙ ap (λ b. filter p (take n (names l)) ++ cond b (x ∷ []) []) pass
+pub filter-keeps : (b : BookFacts) (p : Name → Bool) (n : ℕ) (x : Name) → n < count_of b → x ≡ name_at b n → p x ≡ true
+    → filter p (take (n + 1) (all_names b)) ≡ filter p (take n (all_names b)) ++ x ∷ []
+filter-keeps b p n x below at pass =
+    filter-next b p n below ∙ ap (λ y. filter p (take n (all_names b)) ++ cond (p y) (y ∷ []) []) (sym at)
+    ∙ ap (λ test. filter p (take n (all_names b)) ++ cond test (x ∷ []) []) pass
 
-pub filter-drops : (l : Layout) (p : Name → Bool) (n : ℕ) (x : Name) → n < count_of l → x ≡ name_at l n → p x ≡ false
-    → filter p (take (n + 1) (names l)) ≡ filter p (take n (names l))
-filter-drops l p n x below at fail =
-    filter-next l p n below ∙ ap (λ y. filter p (take n (names l)) ++ cond (p y) (y ∷ []) []) (sym at)
-    ∙ ap (λ b. filter p (take n (names l)) ++ cond b (x ∷ []) []) fail ∙ append-nil _
+pub filter-drops : (b : BookFacts) (p : Name → Bool) (n : ℕ) (x : Name) → n < count_of b → x ≡ name_at b n → p x ≡ false
+    → filter p (take (n + 1) (all_names b)) ≡ filter p (take n (all_names b))
+filter-drops b p n x below at fail =
+    filter-next b p n below ∙ ap (λ y. filter p (take n (all_names b)) ++ cond (p y) (y ∷ []) []) (sym at)
+    ∙ ap (λ test. filter p (take n (all_names b)) ++ cond test (x ∷ []) []) fail ∙ append-nil _
 
 -- ---- the file has each of its names
 
-All-filter : {X : Type 0} (P : X → Type 0) (p : X → Bool) (xs : List X) → All P xs → All P (filter p xs)
-All-filter P p [] h = All-nil P
-All-filter P p (x ∷ xs) h =
-    let rest = All-filter P p xs (All-tail P x xs h) in
-    cond_both (p x) (x ∷ filter p xs) (filter p xs) (λ ys. All P ys) (λ _. All-cons P x (filter p xs) (All-head P x xs h) rest) (λ _. rest)
-
-All-names : (l : Layout) → All (HasName l) (names l)
+All-names : (b : BookFacts) → All (HasName b) (all_names b)
 unfolding name_at count_of
-All-names l = All-from_get_or (HasName l) (names l) (name.Data 0) (λ i below. (number_of-name_at l i below).0)
+All-names b = All-from_get_or (HasName b) (all_names b) (name.Data 0) (λ i below. (number_of-name_at b i below).0)
 
 -- and so each name of a sublist
-pub All-sublist : (l : Layout) (p : Name → Bool) (found : List Name) → found ≡ filter p (names l) → All (HasName l) found
-All-sublist l p found is = All-same (HasName l) found (filter p (names l)) is (All-filter (HasName l) p (names l) (All-names l))
+pub All-sublist : (b : BookFacts) (p : Name → Bool) (found : List Name) → found ≡ filter p (all_names b) → All (HasName b) found
+All-sublist b p found is = All-same (HasName b) found (filter p (all_names b)) is (All-filter p (HasName b) (all_names b) (All-names b))

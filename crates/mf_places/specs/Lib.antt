@@ -1,4 +1,9 @@
-pub mod Layout
-pub mod Rows
+-- What the public calls promise.
+pub mod Facts
+pub mod Names
+pub mod Generations
+pub mod Placement
+pub mod Servers
+-- Words of private functions.
 pub mod Kept
-pub mod Stripe
+pub mod Rows

@@ -1,20 +1,25 @@
 //! The names of a file's chunks, their order, and the servers where they lie.
 #![tactic(auto)]
 
-ghost use Rattle.std.specs.Prelude.{◌≡◌, ℕ, ◌+◌, ◌*◌, ◌^◌, ◌<◌, ◌≤◌, ◌↔◌, length, filter, IsTrue};
-ghost use Rattle.std.specs.Prelude.{IsBitSet, IfOk, IfNone, IfSome, OnSome, Some};
+ghost use Rattle.std.specs.Prelude.{◌≡◌, ℕ, ◌+◌, ◌*◌, ◌^◌, ◌<◌, ◌≤◌, length, filter, IsTrue};
+ghost use Rattle.std.specs.Prelude.{IfOk, IfNone, IfSome, OnSome, Some};
 ghost use Rattle.std.specs.Int.{div_ceil};
 ghost use Rattle.mf_shape.specs.Stages.{stage_at, width_at, max_width, tolerance_at};
-ghost use Rattle.mf_places.specs.Layout.{HasPoints, HasName, IsLayout, IsApart, chunks_of};
-ghost use Rattle.mf_places.specs.Layout.{stripes_of, parities_of, count_of, name_at, holds};
-ghost use Rattle.mf_places.specs.Layout.{stripe_of, column_of, server_of};
+ghost use Rattle.mf_places.specs.Facts.{HasPoints, IsBook, chunks_of};
+ghost use Rattle.mf_places.specs.Names.{HasName, stripes_of, parities_of, count_of, name_at};
+ghost use Rattle.mf_places.specs.Generations.{holds, stripe_of, pieces_of};
+ghost use Rattle.mf_places.specs.Placement.{IsApart, column_of, server_of};
 ghost use Rattle.mf_places.specs.Rows.{first_in, number_of, IsNumber};
 
 mod lists;
+mod losses;
 mod rows;
+mod servers;
 
+pub use losses::{LoseLine, Losses};
 use mf_shape::{Shape, Stage};
 use rows::{first_numbers, greatest_parities};
+pub use servers::Servers;
 pub use std::alloc::AllocError as Memory;
 use std::alloc::Global;
 use std::marker::Model;
@@ -30,22 +35,6 @@ pub enum Name {
     Parity(u32, u32, u32),
 }
 
-/// A set of servers: bit s stands for server s.
-#[derive(Clone, Copy, Debug, PartialEq, Eq)]
-pub struct Servers {
-    pub bits: u128,
-}
-
-impl Servers {
-    /// Whether the server is in the set.
-    pub fn has(self, server: u32) -> bool
-        requires { server < 128 }
-        ensures { IsTrue result ↔ IsBitSet self.bits server }
-    {
-        (self.bits >> server) & 1 == 1
-    }
-}
-
 /// The names of one file, numbered in their order, and where each lies.
 ///
 /// The order is: all data by chunk; then the copies, by copy and then chunk; then the parities, by
@@ -53,8 +42,7 @@ impl Servers {
 /// with the most has.
 #[derive(Debug, Drop)]
 pub struct Book {
-    stages: Vec<Stage>,
-    servers: u32,
+    shape: Shape,
     points: Vec<u8>,
     chunk: u32,
     file: u32,
@@ -69,13 +57,13 @@ pub struct Book {
 }
 
 impl Model for Book {
-    ghost use Rattle.mf_places.specs.Layout.{Layout};
+    ghost use Rattle.mf_places.specs.Facts.{BookFacts};
 
-    ghost Value = { Layout };
+    ghost Value = { BookFacts };
 
-    ghost use Rattle.mf_places.specs.Kept.{layout_of, IsKept};
+    ghost use Rattle.mf_places.specs.Kept.{facts_of, IsKept};
 
-    ghost view = { layout_of };
+    ghost view = { facts_of };
 
     ghost invariant = { IsKept };
 }
@@ -93,25 +81,22 @@ impl Book {
     ) -> Result<Book, Memory>
         requires points { HasPoints shape.now.stages points.now }
         requires chunk { (1 ≤ chunk) × (chunk ≤ 65536) }
-        requires file { file < 64 }
+        requires file { file < 128 }
         requires length { length ≤ 1048576 }
         requires chunks { div_ceil length chunk ≤ 1024 }
         ensures { IfOk result (λ book. book ≡ record {
-          stages = shape.now.stages;
-          servers = shape.now.servers;
+          shape = shape.now;
           points = points.now;
           chunk = chunk;
           file = file;
           bytes = length;
         }) }
     {
-        let stages = shape.stages();
         let chunks = length.div_ceil(chunk);
         let widest = shape.widest();
-        let firsts = first_numbers(alloc, stages, chunks, widest)?;
+        let firsts = first_numbers(alloc, shape.stages(), chunks, widest)?;
         Ok(Book {
-            stages: Vec::from_slice(alloc, stages)?,
-            servers: shape.servers(),
+            shape: shape.clone()?,
             points: Vec::from_slice(alloc, points)?,
             chunk,
             file,
@@ -123,26 +108,34 @@ impl Book {
         })
     }
 
+    /// The shape of the file's family.
+    pub fn shape(&self) -> &Shape
+        ensures value { result.now ≡ self.now.shape }
+        ensures kept { IsBook self.now }
+    {
+        &self.shape
+    }
+
     /// The points of the parities: parity p is the one with point p.
     pub fn points(&self) -> &[u8]
         ensures value { result.now ≡ self.now.points }
-        ensures kept { IsLayout self.now }
+        ensures kept { IsBook self.now }
     {
         self.points.as_slice()
     }
 
     /// The number of stages.
     pub fn stages(&self) -> u32
-        ensures value { result ≡ length self.now.stages }
-        ensures kept { IsLayout self.now }
+        ensures value { result ≡ length self.now.shape.stages }
+        ensures kept { IsBook self.now }
     {
-        self.stages.len() as u32
+        self.shape.stages().len() as u32
     }
 
     /// The bytes of a chunk.
     pub fn chunk(&self) -> u32
         ensures value { result ≡ self.now.chunk }
-        ensures kept { IsLayout self.now }
+        ensures kept { IsBook self.now }
     {
         self.chunk
     }
@@ -150,7 +143,7 @@ impl Book {
     /// The length of the file in bytes.
     pub fn length(&self) -> u32
         ensures value { result ≡ self.now.bytes }
-        ensures kept { IsLayout self.now }
+        ensures kept { IsBook self.now }
     {
         self.bytes
     }
@@ -158,7 +151,7 @@ impl Book {
     /// The number of the file's chunks.
     pub fn chunks(&self) -> u32
         ensures value { result ≡ chunks_of self.now }
-        ensures kept { IsLayout self.now }
+        ensures kept { IsBook self.now }
     {
         self.chunks
     }
@@ -166,7 +159,7 @@ impl Book {
     /// The number of the file's names.
     pub fn count(&self) -> u32
         ensures value { result ≡ count_of self.now }
-        ensures kept { IsLayout self.now }
+        ensures kept { IsBook self.now }
     {
         self.first(self.widest + 1)
     }
@@ -202,15 +195,15 @@ impl Book {
     pub fn server(&self, name: Name) -> u32
         requires { HasName self.now name }
         ensures value { result ≡ server_of self.now name }
-        ensures within { result < self.now.servers }
+        ensures within { result < self.now.shape.servers }
         ensures apart { IsApart self.now name }
     {
-        (self.file + self.column(name)) % self.servers
+        (self.file + self.column(name)) % self.shape.servers()
     }
 
     /// Whether generation g holds the name.
     pub fn holds(&self, g: u32, name: Name) -> bool
-        requires { g < length self.now.stages }
+        requires { g < length self.now.shape.stages }
         ensures { result ≡ holds self.now g name }
     {
         let stage = self.stage(g);
@@ -225,27 +218,37 @@ impl Book {
 
     /// How many lost names of one stripe generation g bears.
     pub fn tolerance(&self, g: u32) -> u32
-        requires { g < length self.now.stages }
-        ensures { result ≡ tolerance_at self.now.stages g }
+        requires { g < length self.now.shape.stages }
+        ensures { result ≡ tolerance_at self.now.shape.stages g }
     {
-        let stage = self.stage(g);
-        stage.copies + stage.parities
+        self.shape.tolerance(g)
     }
 
     /// The number of stripes of generation g.
     pub fn stripes(&self, g: u32) -> u32
-        requires { g < length self.now.stages }
-        ensures { result ≡ stripes_of self.now (width_at self.now.stages g) }
+        requires { g < length self.now.shape.stages }
+        ensures { result ≡ stripes_of self.now (width_at self.now.shape.stages g) }
     {
         self.chunks.div_ceil(self.stage(g).width)
     }
 
+    /// The number of chunks of a stripe of generation g.
+    pub fn pieces(&self, g: u32, stripe: u32) -> u32
+        requires stage { g < length self.now.shape.stages }
+        requires stripe { stripe < stripes_of self.now (width_at self.now.shape.stages g) }
+        ensures value { result ≡ pieces_of self.now g stripe }
+        ensures within { (1 ≤ result) × (result ≤ width_at self.now.shape.stages g) }
+    {
+        let width = self.stage(g).width;
+        (self.chunks - stripe * width).min(width)
+    }
+
     /// The stripe of generation g that a name which it holds belongs to.
     pub fn stripe_of(&self, g: u32, name: Name) -> u32
-        requires stage { g < length self.now.stages }
+        requires stage { g < length self.now.shape.stages }
         requires held { IsTrue (holds self.now g name) }
         ensures value { result ≡ stripe_of self.now g name }
-        ensures within { result < stripes_of self.now (width_at self.now.stages g) }
+        ensures within { result < stripes_of self.now (width_at self.now.shape.stages g) }
     {
         let stage = self.stage(g);
         match name {
@@ -257,22 +260,22 @@ impl Book {
 
     // Stage g.
     fn stage(&self, g: u32) -> Stage
-        requires { g < length self.now.stages }
-        ensures value { result ≡ stage_at self.now.stages g }
+        requires { g < length self.now.shape.stages }
+        ensures value { result ≡ stage_at self.now.shape.stages g }
         ensures width { (1 ≤ result.width) × (result.width ≤ 64) }
         ensures parities { result.parities ≤ 4 }
         ensures copies { result.copies ≤ 2 }
-        ensures kept { IsLayout self.now }
+        ensures kept { IsBook self.now }
     {
-        self.stages[g as usize]
+        self.shape.stages()[g as usize]
     }
 
     // The number of the first parity of a width, or of the first name that the file hasn't.
     fn first(&self, width: u32) -> u32
-        requires { width ≤ max_width self.now.stages + 1 }
-        ensures value { result ≡ first_in (chunks_of self.now) self.now.stages width }
+        requires { width ≤ max_width self.now.shape.stages + 1 }
+        ensures value { result ≡ first_in (chunks_of self.now) self.now.shape.stages width }
         ensures bound { result ≤ 300000 }
-        ensures kept { IsLayout self.now }
+        ensures kept { IsBook self.now }
     {
         self.firsts[width as usize]
     }
@@ -282,7 +285,7 @@ impl Book {
         ensures value { result ≡ parities_of self.now width }
         ensures bound { result ≤ 4 }
     {
-        greatest_parities(self.stages.as_slice(), width)
+        greatest_parities(self.shape.stages(), width)
     }
 
     // The column of a name.
@@ -318,7 +321,7 @@ impl Book {
 
     // The name of a parity by its number.
     fn parity_name(&self, n: u32) -> Name
-        requires from { first_in (chunks_of self.now) self.now.stages 0 ≤ n }
+        requires from { first_in (chunks_of self.now) self.now.shape.stages 0 ≤ n }
         requires below { n < count_of self.now }
         ensures had { HasName self.now result }
         ensures number { number_of self.now result ≡ n }

@@ -2,8 +2,9 @@
 ghost use Rattle.std.specs.Prelude.{◌≡◌, ◌-◌, ◌<◌, ◌≤◌, ◌++◌, length, map, filter, All, IfOk, OnOk};
 ghost use Rattle.std.specs.List.{range_with_len};
 ghost use Rattle.mf_shape.specs.Stages.{width_at};
-ghost use Rattle.mf_places.specs.Layout.{HasName, names, holds, holds_in, is_on, stripes_of};
-ghost use Rattle.mf_places.specs.Stripe.{stripe_names};
+ghost use Rattle.mf_places.specs.Names.{HasName, all_names, stripes_of};
+ghost use Rattle.mf_places.specs.Generations.{holds, holds_in, stripe_names};
+ghost use Rattle.mf_places.specs.Placement.{is_on};
 
 use crate::{Book, Memory, Name};
 use std::alloc::Global;
@@ -16,9 +17,9 @@ impl Book {
 
     /// The names that generation g holds, in their order. The only error is want of memory.
     pub fn names(&self, g: u32) -> Result<Vec<Name>, Memory>
-        requires { g < length self.now.stages }
+        requires { g < length self.now.shape.stages }
         ensures sublist { IfOk result (λ found.
-            found.items ≡ filter (holds self.now g) (names self.now)) }
+            found.items ≡ filter (holds self.now g) (all_names self.now)) }
         ensures had { IfOk result (λ found. All (HasName self.now) found.items) }
     {
         let mut found = Vec::new(self.allocator());
@@ -34,11 +35,11 @@ impl Book {
     /// The names of one stripe of generation g, in their order. A stripe that the file hasn't has none.
     /// The only error is want of memory.
     pub fn names_of(&self, g: u32, stripe: u32) -> Result<Vec<Name>, Memory>
-        requires { g < length self.now.stages }
+        requires { g < length self.now.shape.stages }
         ensures sublist { IfOk result (λ found.
-            found.items ≡ filter (holds_in self.now g stripe) (names self.now)) }
+            found.items ≡ filter (holds_in self.now g stripe) (all_names self.now)) }
         ensures had { IfOk result (λ found. All (HasName self.now) found.items) }
-        ensures parts { stripe < stripes_of self.now (width_at self.now.stages g)
+        ensures parts { stripe < stripes_of self.now (width_at self.now.shape.stages g)
             → IfOk result (λ found. found.items ≡ stripe_names self.now g stripe) }
     {
         let stage = self.stage(g);
@@ -59,7 +60,7 @@ impl Book {
     /// The names on a server, in their order. The only error is want of memory.
     pub fn names_on(&self, server: u32) -> Result<Vec<Name>, Memory>
         ensures sublist { IfOk result (λ found.
-            found.items ≡ filter (is_on self.now server) (names self.now)) }
+            found.items ≡ filter (is_on self.now server) (all_names self.now)) }
         ensures had { IfOk result (λ found. All (HasName self.now) found.items) }
     {
         let mut found = Vec::new(self.allocator());

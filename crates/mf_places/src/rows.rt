@@ -1,7 +1,7 @@
 //! The parities of each width, counted.
 ghost use Rattle.std.specs.Prelude.{◌≡◌, ℕ, ◌+◌, ◌*◌, ◌<◌, ◌≤◌, length, IfOk};
 ghost use Rattle.mf_shape.specs.Chain.{IsChain};
-ghost use Rattle.mf_places.specs.Layout.{max_parities};
+ghost use Rattle.mf_places.specs.Names.{max_parities};
 ghost use Rattle.mf_places.specs.Rows.{parities_in, IsFirsts};
 
 use mf_shape::Stage;

@@ -1,5 +1,5 @@
 use crate::Name::{Copy, Data, Parity};
-use crate::{Book, Name, Servers};
+use crate::{Book, Losses, Name, Servers};
 use mf_shape::{Shape, Stage};
 use std::test::Fail;
 
@@ -109,18 +109,13 @@ fn stripes_of_four_chunks(rt: HostRuntime) -> Result<(), Fail> {
     if book.holds(0, copy) {
         assert_eq!(rt; book.stripe_of(0, copy), 1);
     }
-    let away = Servers { bits: 5 };
-    assert_eq!(rt;
-        (away.has(0), away.has(1), away.has(2)),
-        (true, false, true)
-    );
     Ok(())
 }
 
 #[test]
 fn stripes_of_five_chunks(rt: HostRuntime) -> Result<(), Fail> {
     let shape = Shape::new(rt.alloc(), &STAGES, 6)?;
-    let book = Book::new(rt.alloc(), &shape, &[1, 2], 1, 0, 5)?;
+    let book = Book::new(rt.alloc(), &shape, &[1, 2], 1, 127, 5)?;
     assert_eq!(rt; book.count(), 20);
     assert_eq!(rt; (book.stripes(0), book.stripes(1)), (3, 2));
     assert_eq!(rt; (book.tolerance(0), book.tolerance(1)), (3, 2));
@@ -135,5 +130,22 @@ fn stripes_of_five_chunks(rt: HostRuntime) -> Result<(), Fail> {
         [Data(4), Parity(4, 1, 0), Parity(4, 1, 1)].as_slice()
     );
     assert_eq!(rt; book.names_of(1, 2)?.len(), 0);
+    assert_eq!(rt; (book.pieces(0, 1), book.pieces(0, 2)), (2, 1));
+    assert_eq!(rt; (book.pieces(1, 0), book.pieces(1, 1)), (4, 1));
+    Ok(())
+}
+
+#[test]
+fn sets_of_servers(rt: HostRuntime) -> Result<(), Fail> {
+    let away = Servers::of(&[127, 0, 2, 128, 2]);
+    assert_eq!(rt; away.bits, 1 << 127 | 5);
+    for (server, in_it) in [(0, true), (1, false), (2, true), (127, true), (128, false)] {
+        assert_eq!(rt; away.has(server), in_it, "{server}");
+    }
+    assert_eq!(rt; away.list(rt.alloc())?.as_slice(), [0, 2, 127].as_slice());
+    assert_eq!(rt; Servers::none().list(rt.alloc())?.len(), 0);
+    let mut losses = Losses::new(rt.alloc());
+    losses.push(10, 0)?;
+    losses.push(11, 127)?;
     Ok(())
 }

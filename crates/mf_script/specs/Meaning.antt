@@ -2,7 +2,7 @@
 use Rattle.std.specs.Prelude.{ℕ, ◌+◌, List, [], ◌∷◌, ◌++◌, slice_index_or, codes}
 use Rattle.mf_shape.specs.declared.Stage.{Stage}
 use Rattle.mf_check.specs.Families.{Code}
-use Rattle.mf_places.specs.declared.Servers.{Servers}
+use Rattle.mf_places.specs.declared.servers.Servers.{Servers}
 use Rattle.mf_script.specs.declared.contents.FileLine.{FileLine}
 use Rattle.mf_script.specs.declared.scripts.Act.TheVariants as act
 use Rattle.mf_script.specs.declared.scripts.Command.{Command}

@@ -1,20 +1,20 @@
 use Rattle.std.proofs.Common.{◌≡◌, ap, ◌∙◌, refl, arith}
 use Rattle.mf_places.specs.declared.Name.TheVariants as name
-use Rattle.mf_places.specs.Layout.{chunks_of}
+use Rattle.mf_places.specs.Facts.{chunks_of}
 use Rattle.mf_places.proofs.Names.{name_at-number, name_at-copy}
 use Rattle.mf_places.proofs.Book.name.Goals as goal
 
 pub returns-then-n-self-clause-value : goal.returns-then-n-self-clause-value
 returns-then-n-self-clause-value c =
-    let l = c.args.self.now in
-    let chunks : c.self.inside.chunks ≡ chunks_of l = c.self.invariant.chunks ∙ ap chunks_of c.self.view_is in
-    name_at-number l (name.Data c.args.n) c.args.n (omega (arith, c.if-n-self.true)) refl
+    let b = c.args.self.now in
+    let chunks : c.self.inside.chunks ≡ chunks_of b = c.self.invariant.chunks ∙ ap chunks_of c.self.view_is in
+    name_at-number b (name.Data c.args.n) c.args.n (omega (arith, c.if-n-self.true)) refl
 
 pub returns-then-n-first-clause-value : goal.returns-then-n-first-clause-value
 returns-then-n-first-clause-value c =
-    let l = c.args.self.now in
-    let chunks : c.self.inside.chunks ≡ chunks_of l = c.self.invariant.chunks ∙ ap chunks_of c.self.view_is in
-    rw chunks (name_at-copy l c.args.n (omega (arith, c.if-n-self.false)) (omega (arith, c.first.ensures.value, c.if-n-first.true)))
+    let b = c.args.self.now in
+    let chunks : c.self.inside.chunks ≡ chunks_of b = c.self.invariant.chunks ∙ ap chunks_of c.self.view_is in
+    rw chunks (name_at-copy b c.args.n (omega (arith, c.if-n-self.false)) (omega (arith, c.first.ensures.value, c.if-n-first.true)))
 
 pub returns-clause-value : goal.returns-clause-value
 returns-clause-value c =

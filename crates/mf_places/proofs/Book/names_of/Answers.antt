@@ -1,17 +1,18 @@
 use Rattle.std.proofs.Common.{◌≡◌, ◌+◌, ◌*◌, ◌<◌, min, ap, sym, ◌∙◌, arith}
 use Rattle.mf_shape.specs.declared.Stage.{Stage}
 use Rattle.mf_shape.specs.Stages.{width_at, parities_at, copies_at}
-use Rattle.mf_places.specs.Layout.{chunks_of, stripes_of, holds_in}
-use Rattle.mf_places.specs.Stripe.{stripe_start, stripe_end, stripe_names}
+use Rattle.mf_places.specs.Facts.{chunks_of}
+use Rattle.mf_places.specs.Names.{stripes_of}
+use Rattle.mf_places.specs.Generations.{holds_in, stripe_start, stripe_end, stripe_names}
 use Rattle.mf_places.proofs.Stripes.{stripe_names-is, stripe_names-past, stripe_names-made, copies-more}
 use Rattle.mf_places.proofs.Names.{All-sublist}
 use Rattle.mf_places.proofs.Book.names_of.Goals as goal
 
 pub returns-then-stripes-stripe-clause-sublist : goal.returns-then-stripes-stripe-clause-sublist
 returns-then-stripes-stripe-clause-sublist c =
-    let l = c.args.self.now in
+    let b = c.args.self.now in
     c.new-found.ensures.items
-    ∙ sym (stripe_names-past l c.stage-stage.ensures.kept c.args.g c.args.stripe c.requires (omega (arith, c.stripes.ensures, c.if-stripes-stripe.true)))
+    ∙ sym (stripe_names-past b c.stage-stage.ensures.kept c.args.g c.args.stripe c.requires (omega (arith, c.stripes.ensures, c.if-stripes-stripe.true)))
 
 pub returns-then-stripes-stripe-clause-had : goal.returns-then-stripes-stripe-clause-had
 returns-then-stripes-stripe-clause-had c =
@@ -19,29 +20,29 @@ returns-then-stripes-stripe-clause-had c =
 
 pub loop-c-preserved : goal.loop-c-preserved
 loop-c-preserved c =
-    let l = c.args.self.now in
+    let b = c.args.self.now in
     let k = c.stage-stage.result.width in
-    let width : k ≡ width_at l.stages c.args.g = ap (λ (s : Stage). s.width) c.stage-stage.ensures.value in
-    let starts : c.args.stripe * k ≡ stripe_start l c.args.g c.args.stripe = ap (λ i. c.args.stripe * i) width in
-    let chunks : c.self.inside.chunks ≡ chunks_of l = c.self.invariant.chunks ∙ ap chunks_of c.self.view_is in
-    let ends : c.min-to.result ≡ stripe_end l c.args.g c.args.stripe = c.min-to.ensures ∙ ap (λ n. min (c.args.stripe * k + k) n) chunks ∙ ap (λ i. min (c.args.stripe * i + i) (chunks_of l)) width in
-    copies-more l c.args.g c.args.stripe c.loop-c.c (c.args.stripe * k) c.min-to.result c.loop-c.found.items c.push_copies.new.found.items starts ends c.loop-c.invariant c.in_ok-push_copies.ensures
+    let width : k ≡ width_at b.shape.stages c.args.g = ap (λ (s : Stage). s.width) c.stage-stage.ensures.value in
+    let starts : c.args.stripe * k ≡ stripe_start b c.args.g c.args.stripe = ap (λ i. c.args.stripe * i) width in
+    let chunks : c.self.inside.chunks ≡ chunks_of b = c.self.invariant.chunks ∙ ap chunks_of c.self.view_is in
+    let ends : c.min-to.result ≡ stripe_end b c.args.g c.args.stripe = c.min-to.ensures ∙ ap (λ n. min (c.args.stripe * k + k) n) chunks ∙ ap (λ i. min (c.args.stripe * i + i) (chunks_of b)) width in
+    copies-more b c.args.g c.args.stripe c.loop-c.c (c.args.stripe * k) c.min-to.result c.loop-c.found.items c.push_copies.new.found.items starts ends c.loop-c.invariant c.in_ok-push_copies.ensures
 
 pub returns-clause-parts : goal.returns-clause-parts
 returns-clause-parts c =
-    let l = c.args.self.now in
-    let width : c.stage-stage.result.width ≡ width_at l.stages c.args.g = ap (λ (s : Stage). s.width) c.stage-stage.ensures.value in
-    let parities : c.stage-stage.result.parities ≡ parities_at l.stages c.args.g = ap (λ (s : Stage). s.parities) c.stage-stage.ensures.value in
-    let copies : c.stage-stage.result.copies ≡ copies_at l.stages c.args.g = ap (λ (s : Stage). s.copies) c.stage-stage.ensures.value in
-    let all : c.loop-c.c ≡ copies_at l.stages c.args.g = omega (arith, c.loop-c-test.false) in
-    λ below. stripe_names-made l c.args.g c.args.stripe c.loop-c.c c.stage-stage.result.width c.stage-stage.result.parities c.loop-c.found.items c.push_parities.new.found.items all width parities c.loop-c.invariant c.in_ok-push_parities.ensures
+    let b = c.args.self.now in
+    let width : c.stage-stage.result.width ≡ width_at b.shape.stages c.args.g = ap (λ (s : Stage). s.width) c.stage-stage.ensures.value in
+    let parities : c.stage-stage.result.parities ≡ parities_at b.shape.stages c.args.g = ap (λ (s : Stage). s.parities) c.stage-stage.ensures.value in
+    let copies : c.stage-stage.result.copies ≡ copies_at b.shape.stages c.args.g = ap (λ (s : Stage). s.copies) c.stage-stage.ensures.value in
+    let all : c.loop-c.c ≡ copies_at b.shape.stages c.args.g = omega (arith, c.loop-c-test.false) in
+    λ below. stripe_names-made b c.args.g c.args.stripe c.loop-c.c c.stage-stage.result.width c.stage-stage.result.parities c.loop-c.found.items c.push_parities.new.found.items all width parities c.loop-c.invariant c.in_ok-push_parities.ensures
 
 pub returns-clause-sublist : goal.returns-clause-sublist
 returns-clause-sublist c =
-    let l = c.args.self.now in
-    let below : c.args.stripe < stripes_of l (width_at l.stages c.args.g) = omega (arith, c.stripes.ensures, c.if-stripes-stripe.false) in
-    let made : c.push_parities.new.found.items ≡ stripe_names l c.args.g c.args.stripe = returns-clause-parts c below in
-    made ∙ sym (stripe_names-is l c.stage-stage.ensures.kept c.args.g c.args.stripe c.requires below)
+    let b = c.args.self.now in
+    let below : c.args.stripe < stripes_of b (width_at b.shape.stages c.args.g) = omega (arith, c.stripes.ensures, c.if-stripes-stripe.false) in
+    let made : c.push_parities.new.found.items ≡ stripe_names b c.args.g c.args.stripe = returns-clause-parts c below in
+    made ∙ sym (stripe_names-is b c.stage-stage.ensures.kept c.args.g c.args.stripe c.requires below)
 
 pub returns-clause-had : goal.returns-clause-had
 returns-clause-had c =

@@ -1,6 +1,6 @@
 use Rattle.std.proofs.Common.{◌≡◌, ◌++◌}
 use Rattle.std.specs.List.{flat_map, range_with_len}
-use Rattle.mf_places.specs.Stripe.{data_of_stripe, copy_of_stripe}
+use Rattle.mf_places.specs.Generations.{data_of_stripe, copy_of_stripe}
 use Rattle.mf_places.proofs.Book.names_of.Given as goal
 
 abbrev pub invariant-loop-c : goal.invariant-loop-c

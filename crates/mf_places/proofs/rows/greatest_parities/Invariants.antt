@@ -1,5 +1,5 @@
 use Rattle.std.proofs.Common.{◌≡◌, take}
-use Rattle.mf_places.specs.Layout.{max_parities}
+use Rattle.mf_places.specs.Names.{max_parities}
 use Rattle.mf_places.proofs.rows.greatest_parities.Given as goal
 
 abbrev pub invariant-loop-stage : goal.invariant-loop-stage

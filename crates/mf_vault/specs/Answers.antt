@@ -1,0 +1,130 @@
+-- What is promised of the answer of each call: of any actor, and of one that is alone.
+use Rattle.std.specs.Prelude.{◌≡◌, ℕ, ◌+◌, ◌<◌, ◌≤◌, Bool, true, false, [], IfSome}
+use Rattle.mf_machine.specs.declared.view.View.{View}
+use Rattle.mf_machine.specs.Actors.{PinHolds}
+use Rattle.mf_machine.specs.Answers.{begin_answer, see_answer, take_answer, close_answer, drop_answer, lose_answer}
+use Rattle.mf_machine.specs.Answers as machine
+use Rattle.mf_machine.specs.File.{IsLoseLine}
+use Rattle.mf_machine.specs.Moves.{World, word_of}
+use Rattle.mf_places.specs.declared.Name.{Name}
+use Rattle.mf_places.specs.Servers.{IsIn}
+use Rattle.mf_vault.specs.declared.answers.Closed.{Closed}
+use Rattle.mf_vault.specs.declared.answers.Closed.TheVariants as closed
+use Rattle.mf_vault.specs.declared.answers.Got.{Got}
+use Rattle.mf_vault.specs.declared.answers.Got.TheVariants as got
+use Rattle.mf_vault.specs.declared.answers.Pinned.{Pinned}
+use Rattle.mf_vault.specs.declared.answers.Pinned.TheVariants.{At, Absent, Removed}
+use Rattle.mf_vault.specs.declared.answers.State.{State}
+use Rattle.mf_vault.specs.declared.answers.State.TheVariants as state
+use Rattle.mf_vault.specs.Facts.{Facts, file, number, server, stages, cell_of}
+use Rattle.mf_vault.specs.Actor.{Actor, Call, cut_off, pin, unpin, begin, end, publish, probe, put, restore, close}
+use Rattle.mf_vault.specs.Actor.{discard, get, lose, did, shut, word_at}
+
+-- the server of the name is cut off
+abbrev pub IsCut : Actor → Name → Type 0
+IsCut a x = IsIn a.cut (server a.facts x)
+
+-- ---- of any actor
+
+-- the server can't be reached exactly where it is the name's and is cut off
+abbrev pub IsAway : Actor → Name → ℕ → Type 0
+IsAway a x s = IsCut a x × (s ≡ server a.facts x)
+
+abbrev pub IsReached : Actor → Name → Type 0
+IsReached a x = IsCut a x → ⊥
+
+-- Lost tells a lose line of the name's server
+abbrev pub IsLostBy : Actor → Name → ℕ → Type 0
+IsLostBy a x l = IsReached a x × IsLoseLine (file a.facts) (number a.facts x) l
+
+-- a pinned generation is a stage, and the number looked at isn't below what was seen
+abbrev pub IsPin : Facts → Pinned → View → Type 0
+IsPin f (At g) v = (g < stages f) × (v.seen.number ≤ g + 1)
+IsPin f Absent v = v.seen.number ≡ 0
+IsPin f Removed v = v.seen.number ≤ stages f + 1
+
+-- Unborn never comes for a name of a pinned generation
+abbrev pub FairState : Actor → Name → State → Type 0
+FairState a x state.Unborn = IsReached a x × (PinHolds (file a.facts) a.view.hold a.view.work (number a.facts x) → ⊥)
+FairState a x state.Here = IsReached a x
+FairState a x (state.Lost l) = IsLostBy a x l
+FairState a x (state.Away s) = IsAway a x s
+
+-- a chunk is the name's cell
+abbrev pub FairGot : Actor → Name → Got → Type 0
+FairGot a x (got.Here c) = IsReached a x × (c ≡ cell_of a.facts x)
+FairGot a x (got.Lost l) = IsLostBy a x l
+FairGot a x (got.Away s) = IsAway a x s
+FairGot a x got.Memory = IsReached a x
+
+abbrev pub FairClose : Closed → Type 0
+FairClose closed.Done = Unit {0}
+FairClose (closed.Pins n) = 0 < n
+FairClose closed.Already = Unit {0}
+
+abbrev pub IsFair : Call → Actor → Type 0
+IsFair (cut_off s) a = Unit {0}
+IsFair (pin slot gs p) a = IsPin a.facts p a.view
+IsFair (unpin slot) a = Unit {0}
+IsFair (begin b) a = Unit {0}
+IsFair end a = Unit {0}
+IsFair (publish next) a = a.view.seen.number < next
+IsFair (probe x s) a = FairState a x s
+IsFair (put x) a = Unit {0}
+IsFair (restore x) a = Unit {0}
+IsFair (close g c) a = FairClose c
+IsFair (discard x b) a = Unit {0}
+IsFair (get x o) a = FairGot a x o
+IsFair (lose x l b) a = Unit {0}
+
+-- ---- of an actor that is alone: the answer is the row's in the whole state
+
+abbrev pub IsNumber : ℕ → Pinned → ℕ → Type 0
+IsNumber q (At g) x = (x ≡ g + 1) × (g < q)
+IsNumber q Absent x = x ≡ 0
+IsNumber q Removed x = x ≡ q + 1
+
+abbrev pub IsState : State → ℕ → Type 0
+IsState state.Unborn x = see_answer x ≡ machine.unborn
+IsState state.Here x = see_answer x ≡ machine.here
+IsState (state.Lost l) x = see_answer x ≡ machine.lost l
+IsState (state.Away s) x = Unit {0}
+
+abbrev pub IsGot : Got → ℕ → Type 0
+IsGot (got.Here c) x = take_answer x ≡ machine.chunk
+IsGot (got.Lost l) x = take_answer x ≡ machine.gone l
+IsGot (got.Away s) x = Unit {0}
+IsGot got.Memory x = take_answer x ≡ machine.chunk
+
+abbrev pub was_dropped : machine.Drop → Bool
+was_dropped machine.drops = true
+was_dropped machine.tries = true
+was_dropped machine.stays = false
+
+abbrev pub was_lost : Bool → machine.Lose
+was_lost true = machine.loses
+was_lost false = machine.nothing
+
+abbrev pub IsAnswer : Facts → Call → World → Type 0
+IsAnswer f (cut_off s) w = Unit {0}
+IsAnswer f (pin slot gs p) w = (gs ≡ []) × IsNumber (stages f) p (word_of w 0)
+IsAnswer f (unpin slot) w = Unit {0}
+IsAnswer f (begin b) w = b ≡ begin_answer (word_of w 1)
+IsAnswer f end w = Unit {0}
+IsAnswer f (publish next) w = Unit {0}
+IsAnswer f (probe x s) w = IsState s (word_at f w x)
+IsAnswer f (put x) w = Unit {0}
+IsAnswer f (restore x) w = Unit {0}
+IsAnswer f (close g c) w = shut c ≡ close_answer (word_of w (g + 2))
+IsAnswer f (discard x b) w = b ≡ was_dropped (drop_answer (word_at f w x))
+IsAnswer f (get x o) w = IsGot o (word_at f w x)
+IsAnswer f (lose x l b) w = was_lost b ≡ lose_answer (word_at f w x)
+
+abbrev pub IsTold : Call → Actor → Type 0
+IsTold c a = IfSome a.whole (IsAnswer a.facts c)
+
+-- ---- a call, with its answer, leads from one actor to the other
+pub record Goes (c : Call) (a b : Actor) : Type 0 where
+  pub becomes : b ≡ did c a
+  pub fair : IsFair c a
+  pub told : IsTold c a

@@ -1,0 +1,5 @@
+pub mod Facts
+pub mod Actor
+pub mod Answers
+pub mod May
+pub mod Licence

@@ -6,7 +6,8 @@ use Rattle.mf_machine.specs.declared.view.Met.{Met}
 use Rattle.mf_machine.specs.declared.view.View.{View}
 use Rattle.mf_machine.specs.Counts.{total}
 use Rattle.mf_machine.specs.Laws.{met_sum, mets_of, AddsUp}
-use Rattle.mf_machine.specs.Rows.{old_half, new_half, joined, spent_view}
+use Rattle.mf_machine.specs.Steps.{old_half, new_half, joined}
+use Rattle.mf_machine.specs.Worlds.{spent_view}
 use Rattle.mf_machine.proofs.Seats.{stays}
 use Rattle.mf_machine.proofs.Totals.{total_set, total_snoc}
 

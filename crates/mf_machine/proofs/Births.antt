@@ -9,11 +9,12 @@ use Rattle.mf_machine.specs.declared.view.View.{View}
 use Rattle.mf_machine.specs.Actors.{Active, Free, NextHolds}
 use Rattle.mf_machine.specs.Counts.{bit, times}
 use Rattle.mf_machine.specs.File.{File, Opening, State, Home, HasCell}
-use Rattle.mf_machine.specs.File.Home.{away}
-use Rattle.mf_machine.specs.Rows as row
-use Rattle.mf_machine.specs.Rows.{counted}
-use Rattle.mf_machine.specs.Sums.{puts, loses, restores, drops, in_get, in_birth, in_retake, in_lose, in_drop, raises, tally, counts}
 use Rattle.mf_machine.specs.Ruled.{Ruled, MetIs}
+use Rattle.mf_machine.specs.Sums.{puts, loses, restores, drops, in_get, in_birth, in_retake, in_lose, in_drop, raises}
+use Rattle.mf_machine.specs.Sums.{tally, counts}
+use Rattle.mf_machine.specs.Worlds.{counted}
+use Rattle.mf_machine.specs.File.Home.{away}
+use Rattle.mf_machine.specs.Steps as row
 use Rattle.mf_machine.proofs.Lists.{bit_is, bit_not, bit_eq, times_cons, times_here, times_else, without_from}
 use Rattle.mf_machine.proofs.Totals.{total_set, total_at}
 use Rattle.mf_machine.proofs.Frames.{Onward, Builds, Ends, seen_on, right_on, met_on, sits_on}

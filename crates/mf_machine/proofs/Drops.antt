@@ -8,11 +8,12 @@ use Rattle.mf_machine.specs.declared.view.View.{View}
 use Rattle.mf_machine.specs.Actors.{Active, Free, AllShown}
 use Rattle.mf_machine.specs.Counts.{bit, total}
 use Rattle.mf_machine.specs.File.{File, Opening, State, Holds, Home}
-use Rattle.mf_machine.specs.File.Home.{away, empty}
-use Rattle.mf_machine.specs.Rows as row
-use Rattle.mf_machine.specs.Rows.{counted}
-use Rattle.mf_machine.specs.Sums.{puts, loses, restores, drops, in_get, in_birth, in_retake, in_lose, in_drop, hides, tally, counts}
 use Rattle.mf_machine.specs.Ruled.{Ruled}
+use Rattle.mf_machine.specs.Sums.{puts, loses, restores, drops, in_get, in_birth, in_retake, in_lose, in_drop, hides}
+use Rattle.mf_machine.specs.Sums.{tally, counts}
+use Rattle.mf_machine.specs.Worlds.{counted}
+use Rattle.mf_machine.specs.File.Home.{away, empty}
+use Rattle.mf_machine.specs.Steps as row
 use Rattle.mf_machine.proofs.Lists.{bit_is, bit_not, bit_eq, times_cons, times_here, times_else, times_more}
 use Rattle.mf_machine.proofs.Totals.{total_set, total_at, total_some}
 use Rattle.mf_machine.proofs.Frames.{Onward, Builds, Ends, onward_same, builds_same, ends_same, shown_shut, sits_on}

@@ -10,14 +10,16 @@ use Rattle.mf_machine.specs.declared.view.View.{View}
 use Rattle.mf_machine.specs.Actors.{live}
 use Rattle.mf_machine.specs.Counts.{times, total, all_begun, all_opened}
 use Rattle.mf_machine.specs.File.{File, Opening, State, Holds}
-use Rattle.mf_machine.specs.File.Home.{empty}
 use Rattle.mf_machine.specs.Kept.{IsActor, IsMetOf, Kept}
-use Rattle.mf_machine.specs.Laws.{Law, RestIsKept, Stays, PinnedStays, IsLast, resting, alone, BringsBack, LastBringsBack, Another, Someone, LeadsBack, CausesLeadBack}
-use Rattle.mf_machine.specs.Moves.{read}
+use Rattle.mf_machine.specs.Laws.{Law, RestIsKept, Stays, PinnedStays, IsLast, resting, alone, BringsBack}
+use Rattle.mf_machine.specs.Laws.{LastBringsBack, Another, Someone, LeadsBack, CausesLeadBack}
 use Rattle.mf_machine.specs.Rest.{Rest}
-use Rattle.mf_machine.specs.Rows.{spent_view}
-use Rattle.mf_machine.specs.Sums.{right_of, share_of, pins, publishings, closings, puts, loses, loses_by, restores, drops, in_get, in_birth, in_retake, in_lose, in_drop, begun_of, opened_of, raises, sinks, hides}
 use Rattle.mf_machine.specs.Ruled.{SitsIn, Ruled}
+use Rattle.mf_machine.specs.Sums.{right_of, share_of, pins, publishings, closings, puts, loses, loses_by, restores}
+use Rattle.mf_machine.specs.Sums.{drops, in_get, in_birth, in_retake, in_lose, in_drop, begun_of, opened_of, raises}
+use Rattle.mf_machine.specs.Sums.{sinks, hides}
+use Rattle.mf_machine.specs.Worlds.{read, spent_view}
+use Rattle.mf_machine.specs.File.Home.{empty}
 use Rattle.mf_machine.proofs.Lists.{bit_is, bit_not}
 use Rattle.mf_machine.proofs.Totals.{total_at, total_two, total_some, total_other}
 use Rattle.mf_machine.proofs.Laws.{reached}

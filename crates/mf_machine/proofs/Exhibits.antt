@@ -1,19 +1,20 @@
 -- A run in which every kind of step occurs, and a state that breaks each rule.
 use Rattle.std.proofs.Common.{◌≡◌, ℕ, zero, suc, ◌+◌, ◌*◌, ◌<◌, eqb, true, false, cond, List, [], ◌∷◌, map, get_or, refl, inl, inr, ⊎_elim, arith}
 use Rattle.mf_machine.specs.declared.view.Met.{Met}
-use Rattle.mf_machine.specs.declared.view.Slot.TheVariants.{Work}
+use Rattle.mf_machine.specs.declared.answer.Slot.TheVariants.{Work}
 use Rattle.mf_machine.specs.declared.view.View.{View}
 use Rattle.mf_machine.specs.Counts.{truth, times}
-use Rattle.mf_machine.specs.Exhibits.{kind, Each, SomeRun, Breaks, EachBreaks}
-use Rattle.mf_machine.specs.File.{File, Opening, State, Holds, HasCell, Unharmed}
-use Rattle.mf_machine.specs.File.Home.{away, empty, keeps}
+use Rattle.mf_machine.specs.File.{File, Opening, State, Holds, HasCell, Unharmed, name_word}
 use Rattle.mf_machine.specs.Kept.{Number, Pins, Born, Builder, Dropped, Losses, Cells, Accounted, Caused}
-use Rattle.mf_machine.specs.Kept as kept
-use Rattle.mf_machine.specs.Moves.{World, Move, actor, read, Opens, Runs, run, Fits, name_word}
-use Rattle.mf_machine.specs.Moves as move
+use Rattle.mf_machine.specs.Moves.{by, Move, Runs, run}
 use Rattle.mf_machine.specs.Rest.{Rest}
+use Rattle.mf_machine.specs.Worlds.{World, actor, Opens, first_view, fresh, nothing_seen, nothing_built}
+use Rattle.mf_machine.specs.Worlds.{nothing_met}
+use Rattle.mf_machine.specs.Exhibits.{kind, Each, SomeRun, Breaks, EachBreaks}
+use Rattle.mf_machine.specs.File.Home.{away, empty, keeps}
+use Rattle.mf_machine.specs.Kept as kept
+use Rattle.mf_machine.specs.Moves as move
 use Rattle.mf_machine.proofs.Words.{cell_here}
-use Rattle.mf_machine.specs.Rows.{first_view, fresh, nothing_seen, nothing_built, nothing_met}
 
 -- two generations and four names: name 0 is held by both, names 1 and 3 by generation 0, name 2 by generation 1. Line 7 takes the servers of names 0 and 3
 abbrev file : File
@@ -108,7 +109,7 @@ shown_three (suc (suc g)) l h = absurd (omega arith)
 
 -- the first actor builds both generations, and reclaims the first one; the second reads, and loses two chunks
 abbrev moves : List Move
-moves = move.split 0 ∷ move.begin 0 ∷ move.begin 1 ∷ move.look 0 ∷ move.see 0 0 ∷ move.see 0 1 ∷ move.see 0 3 ∷ move.birth 0 0 ∷ move.exchange 0 (keeps (0 ∷ [])) ∷ move.born 0 0 ∷ move.birth 0 1 ∷ move.exchange 0 (keeps (1 ∷ [])) ∷ move.born 0 1 ∷ move.birth 0 3 ∷ move.exchange 0 (keeps (3 ∷ [])) ∷ move.born 0 3 ∷ move.publish 0 1 ∷ move.look 1 ∷ move.pin 1 Work 0 ∷ move.see 1 0 ∷ move.take 1 0 ∷ move.give 1 0 ∷ move.see 0 2 ∷ move.birth 0 2 ∷ move.exchange 0 (keeps (2 ∷ [])) ∷ move.born 0 2 ∷ move.lose 1 0 7 ∷ move.exchange 1 empty ∷ move.lost 1 0 7 ∷ move.see 0 0 ∷ move.retake 0 0 ∷ move.exchange 0 (keeps (0 ∷ [])) ∷ move.restored 0 0 ∷ move.publish 0 2 ∷ move.close 0 0 ∷ move.unpin 1 Work 0 ∷ move.close 0 0 ∷ move.pin 1 Work 0 ∷ move.drop 0 1 ∷ move.exchange 0 empty ∷ move.dropped 0 1 ∷ move.lose 1 3 7 ∷ move.exchange 1 empty ∷ move.lost 1 3 7 ∷ move.drop 0 3 ∷ move.drop_again 0 3 ∷ move.end 0 ∷ move.join 0 1 ∷ []
+moves = by 0 move.split ∷ by 0 move.begin ∷ by 1 move.begin ∷ by 0 move.look ∷ by 0 (move.see 0) ∷ by 0 (move.see 1) ∷ by 0 (move.see 3) ∷ by 0 (move.birth 0) ∷ by 0 (move.exchange (keeps (0 ∷ []))) ∷ by 0 (move.born 0) ∷ by 0 (move.birth 1) ∷ by 0 (move.exchange (keeps (1 ∷ []))) ∷ by 0 (move.born 1) ∷ by 0 (move.birth 3) ∷ by 0 (move.exchange (keeps (3 ∷ []))) ∷ by 0 (move.born 3) ∷ by 0 (move.publish 1) ∷ by 1 move.look ∷ by 1 (move.pin Work 0) ∷ by 1 (move.see 0) ∷ by 1 (move.take 0) ∷ by 1 (move.give 0) ∷ by 0 (move.see 2) ∷ by 0 (move.birth 2) ∷ by 0 (move.exchange (keeps (2 ∷ []))) ∷ by 0 (move.born 2) ∷ by 1 (move.lose 0 7) ∷ by 1 (move.exchange empty) ∷ by 1 (move.lost 0 7) ∷ by 0 (move.see 0) ∷ by 0 (move.retake 0) ∷ by 0 (move.exchange (keeps (0 ∷ []))) ∷ by 0 (move.restored 0) ∷ by 0 (move.publish 2) ∷ by 0 (move.close 0) ∷ by 1 (move.unpin Work 0) ∷ by 0 (move.close 0) ∷ by 1 (move.pin Work 0) ∷ by 0 (move.drop 1) ∷ by 0 (move.exchange empty) ∷ by 0 (move.dropped 1) ∷ by 1 (move.lose 3 7) ∷ by 1 (move.exchange empty) ∷ by 1 (move.lost 3 7) ∷ by 0 (move.drop 3) ∷ by 0 (move.drop_again 3) ∷ by 0 move.end ∷ by 0 (move.join 1) ∷ []
 
 moves_run : Runs file first moves
 moves_run = (

@@ -8,8 +8,8 @@ use Rattle.mf_machine.specs.declared.view.View.{View}
 use Rattle.mf_machine.specs.Actors.{busy, PinHolds, AllShown}
 use Rattle.mf_machine.specs.Counts.{times}
 use Rattle.mf_machine.specs.File.{File, Opening, Holds}
-use Rattle.mf_machine.specs.Sums.{Tally}
 use Rattle.mf_machine.specs.Ruled.{SeenIs, RightIs, BuildIs, InsideIs, MetIs, Sits}
+use Rattle.mf_machine.specs.Sums.{Tally}
 
 -- no sum falls
 pub record Grows (a a' : Tally) : Type 0 where

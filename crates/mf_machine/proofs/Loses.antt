@@ -8,11 +8,12 @@ use Rattle.mf_machine.specs.declared.view.View.{View}
 use Rattle.mf_machine.specs.Actors.{Active, Free}
 use Rattle.mf_machine.specs.Counts.{bit}
 use Rattle.mf_machine.specs.File.{File, Opening, State, IsLoseLine, Home}
-use Rattle.mf_machine.specs.File.Home.{away, empty}
-use Rattle.mf_machine.specs.Rows as row
-use Rattle.mf_machine.specs.Rows.{counted}
-use Rattle.mf_machine.specs.Sums.{puts, loses, loses_by, restores, drops, in_get, in_birth, in_retake, in_lose, in_drop, hides, tally, counts}
 use Rattle.mf_machine.specs.Ruled.{Ruled}
+use Rattle.mf_machine.specs.Sums.{puts, loses, loses_by, restores, drops, in_get, in_birth, in_retake, in_lose}
+use Rattle.mf_machine.specs.Sums.{in_drop, hides, tally, counts}
+use Rattle.mf_machine.specs.Worlds.{counted}
+use Rattle.mf_machine.specs.File.Home.{away, empty}
+use Rattle.mf_machine.specs.Steps as row
 use Rattle.mf_machine.proofs.Lists.{bit_is, bit_not, bit_eq, losses_here, losses_else, lines_here, lines_more}
 use Rattle.mf_machine.proofs.Totals.{total_set, total_at}
 use Rattle.mf_machine.proofs.Frames.{Onward, Builds, Ends, sits_on}

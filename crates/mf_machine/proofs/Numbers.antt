@@ -8,9 +8,10 @@ use Rattle.mf_machine.specs.declared.view.View.{View}
 use Rattle.mf_machine.specs.Actors.{Active, Idle}
 use Rattle.mf_machine.specs.Counts.{times, total}
 use Rattle.mf_machine.specs.File.{File, Opening, State, Holds, Home}
-use Rattle.mf_machine.specs.Rows.{counted, looked, published}
-use Rattle.mf_machine.specs.Sums.{right_of, share_of, publishings, tally}
 use Rattle.mf_machine.specs.Ruled.{Words, Ruled}
+use Rattle.mf_machine.specs.Steps.{looked, published}
+use Rattle.mf_machine.specs.Sums.{right_of, share_of, publishings, tally}
+use Rattle.mf_machine.specs.Worlds.{counted}
 use Rattle.mf_machine.proofs.Lists.{times_cons, times_here, times_else, times_more}
 use Rattle.mf_machine.proofs.Totals.{total_set, total_same, total_two}
 use Rattle.mf_machine.proofs.Frames.{onward_same, builds_same, ends_same, onward_eq, ends_eq, idle_inside, seen_on, build_on, met_on, sits_on}

@@ -7,13 +7,12 @@ use native.Mathlib.Decide.{ℕ_discrete}
 use lib.ListN.{get_elem?}
 use Rattle.mf_machine.specs.declared.view.View.{View}
 use Rattle.mf_machine.specs.Counts.{bit, truth}
-use Rattle.mf_machine.specs.File.{File, Opening, State, Home, HasCell}
-use Rattle.mf_machine.specs.File.Home.{empty}
-use Rattle.mf_machine.specs.Moves.{World, read, name_word, Opens}
+use Rattle.mf_machine.specs.File.{File, Opening, State, Home, HasCell, name_word}
 use Rattle.mf_machine.specs.Rest.{Rest}
-use Rattle.mf_machine.specs.Rows.{first_view, first_seen}
-use Rattle.mf_machine.specs.Sums.{lost_bit, tally}
 use Rattle.mf_machine.specs.Ruled.{SitsIn, Ruled}
+use Rattle.mf_machine.specs.Sums.{lost_bit, tally}
+use Rattle.mf_machine.specs.Worlds.{World, read, Opens, first_view, first_seen}
+use Rattle.mf_machine.specs.File.Home.{empty}
 use Rattle.mf_machine.proofs.Lists.{bit_is, bit_not, those_from, truth_is, truth_true, truth_le}
 use Rattle.mf_machine.proofs.Seats.{zero_has, fresh_sits}
 

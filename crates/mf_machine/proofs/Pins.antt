@@ -10,9 +10,10 @@ use Rattle.mf_machine.specs.declared.view.View.{View}
 use Rattle.mf_machine.specs.Actors.{Active, Idle, Free, on, live}
 use Rattle.mf_machine.specs.Counts.{bit, truth, times, foreign, total}
 use Rattle.mf_machine.specs.File.{File, Opening, State, Home}
-use Rattle.mf_machine.specs.Rows.{counted, missed, closed_done, closed_pins, closed_already, spent_view}
-use Rattle.mf_machine.specs.Sums.{right_of, share_of, stray, pins, closings, opened_of, tally}
 use Rattle.mf_machine.specs.Ruled.{PinsAre, SitsIn, Ruled}
+use Rattle.mf_machine.specs.Steps.{missed, closed_done, closed_pins, closed_already}
+use Rattle.mf_machine.specs.Sums.{right_of, share_of, stray, pins, closings, opened_of, tally}
+use Rattle.mf_machine.specs.Worlds.{counted, spent_view}
 use Rattle.mf_machine.proofs.Lists.{bit_is, bit_not, bit_le, times_cons, times_here, times_else, times_more}
 use Rattle.mf_machine.proofs.Totals.{total_set, total_same, total_two, total_at, total_le, total_other}
 use Rattle.mf_machine.proofs.Frames.{onward_same, builds_same, ends_same, onward_eq, builds_eq, ends_eq, idle_inside, sits_on}

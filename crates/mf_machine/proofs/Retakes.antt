@@ -1,19 +1,20 @@
 -- retake
-use Rattle.std.proofs.Common.{◌≡◌, ◌≢◌, ℕ, ◌+◌, ◌<◌, ◌≤◌, List, set, sym, refl, ap, ◌∙◌, subst, ⊎_elim, inl, inr, arith}
+use Rattle.std.proofs.Common.{◌≡◌, ◌⊎◌, ◌≢◌, ℕ, ◌+◌, ◌<◌, ◌≤◌, List, set, sym, refl, ap, ◌∙◌, subst, ⊎_elim, inl, inr, arith}
 use mathlib.Core.Logic.{dite}
 use mathlib.Core.Option.{some}
 use native.Mathlib.Decide.{ℕ_discrete}
 use lib.ListN.{get_elem?}
 use Rattle.mf_machine.specs.declared.view.Met.{Met}
 use Rattle.mf_machine.specs.declared.view.View.{View}
-use Rattle.mf_machine.specs.Actors.{Active, Free, live, IsNext, WorkHolds}
+use Rattle.mf_machine.specs.Actors.{PinHolds, NextHolds, Active, Free, live, IsNext, WorkHolds}
 use Rattle.mf_machine.specs.Counts.{bit, times}
 use Rattle.mf_machine.specs.File.{File, Opening, State, Holds, Home, HasCell}
-use Rattle.mf_machine.specs.File.Home.{away}
-use Rattle.mf_machine.specs.Rows as row
-use Rattle.mf_machine.specs.Rows.{counted}
-use Rattle.mf_machine.specs.Sums.{puts, loses, restores, drops, in_get, in_birth, in_retake, in_lose, in_drop, raises, tally, counts}
 use Rattle.mf_machine.specs.Ruled.{Ruled, MetIs}
+use Rattle.mf_machine.specs.Sums.{puts, loses, restores, drops, in_get, in_birth, in_retake, in_lose, in_drop, raises}
+use Rattle.mf_machine.specs.Sums.{tally, counts}
+use Rattle.mf_machine.specs.Worlds.{counted}
+use Rattle.mf_machine.specs.File.Home.{away}
+use Rattle.mf_machine.specs.Steps as row
 use Rattle.mf_machine.proofs.Lists.{bit_is, bit_not, bit_eq, times_cons, times_here, times_else, without_from}
 use Rattle.mf_machine.proofs.Totals.{total_set, total_at}
 use Rattle.mf_machine.proofs.Frames.{Onward, Builds, Ends, seen_on, right_on, met_on, sits_on}
@@ -39,6 +40,13 @@ pub work_open : (f : File) (k : Opening) (s : State) (id n : ℕ) (v : View) →
 work_open f k s id n v r at work = ⊎_elim
     (λ t. let e = t.2 in let b = bit_is v.work (t.0 + 1) e in (t.0, t.1, t.3, pin_open f k s id t.0 v r at t.1 (omega arith)))
     (λ t. (t.0, t.1.3, t.2, next_open f k s id t.0 v r at t.1)) work.1
+
+-- a name that may be seen isn't Dropped
+pub not_left : (f : File) (k : Opening) (s : State) (id n : ℕ) (v : View) → Ruled f k s → get_elem? s.views id ≡ some v → n < f.names
+    → PinHolds f v.hold v.work n ⊎ NextHolds f v.build v.last n → s.name n ≢ 3
+not_left f k s id n v r at inside may e = let left = (r.words.names n inside).left e in
+    ⊎_elim (λ t. let z = pin_open f k s id t.0 v r at t.1 t.2 in let y = left t.0 t.1 t.3 in omega arith)
+    (λ t. let z = next_open f k s id t.0 v r at t.1 in let y = left t.0 t.1.3 t.2 in omega arith) may
 
 module _ (f : File) (k : Opening) (s : State) (id : ℕ) (v : View) (r : Ruled f k s) (at : get_elem? s.views id ≡ some v) (active : Active v)
     (p' r' : ℕ) (pins' name' : ℕ → ℕ) (home' : ℕ → Home) where

@@ -6,9 +6,10 @@ use Rattle.mf_machine.specs.declared.view.View.{View}
 use Rattle.mf_machine.specs.Actors.{Active, Idle}
 use Rattle.mf_machine.specs.Counts.{total}
 use Rattle.mf_machine.specs.File.{File, Opening, State, Home}
-use Rattle.mf_machine.specs.Rows.{counted, begun, refused, ended}
-use Rattle.mf_machine.specs.Sums.{right_of, share_of, begun_of, tally}
 use Rattle.mf_machine.specs.Ruled.{Ruled}
+use Rattle.mf_machine.specs.Steps.{begun, refused, ended}
+use Rattle.mf_machine.specs.Sums.{right_of, share_of, begun_of, tally}
+use Rattle.mf_machine.specs.Worlds.{counted}
 use Rattle.mf_machine.proofs.Totals.{total_set, total_same, total_two, total_other}
 use Rattle.mf_machine.proofs.Frames.{onward_same, builds_same, ends_same, onward_eq, builds_eq, ends_eq, idle_inside, sits_on}
 use Rattle.mf_machine.proofs.Steps.{Adds, adds_calm, ButRight, After, grows, number_same, pins_same, names_calm, born_calm, names_move, stepped}

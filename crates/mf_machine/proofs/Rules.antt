@@ -7,10 +7,12 @@ use Rattle.mf_machine.specs.declared.view.View.{View}
 use Rattle.mf_machine.specs.Actors.{live}
 use Rattle.mf_machine.specs.Counts.{bit, truth, times, total}
 use Rattle.mf_machine.specs.File.{File, Opening, State}
-use Rattle.mf_machine.specs.Kept.{IsActor, IsClosed, HasSeen, HasTaken, IsMetOf, Number, Pins, Born, Seen, Builder, Dropped, Cells, Accounted, Causes, Kept}
+use Rattle.mf_machine.specs.Kept.{IsActor, IsClosed, HasSeen, HasTaken, IsMetOf, Number, Pins, Born, Seen, Builder}
+use Rattle.mf_machine.specs.Kept.{Dropped, Cells, Accounted, Causes, Kept}
 use Rattle.mf_machine.specs.Rest.{Rest}
-use Rattle.mf_machine.specs.Sums.{publishings, closings, puts, loses, loses_by, restores, drops, in_get, in_birth, in_retake, in_lose, in_drop, raises, sinks, hides, lost_bit, Tally, tally}
 use Rattle.mf_machine.specs.Ruled.{MetIs, Ruled}
+use Rattle.mf_machine.specs.Sums.{publishings, closings, puts, loses, loses_by, restores, drops, in_get, in_birth}
+use Rattle.mf_machine.specs.Sums.{in_retake, in_lose, in_drop, raises, sinks, hides, lost_bit, Tally, tally}
 use Rattle.mf_machine.proofs.Lists.{bit_is, bit_not, bit_eq, bit_le, truth_is, truth_true}
 use Rattle.mf_machine.proofs.Totals.{total_at, total_two, total_some}
 use Rattle.mf_machine.proofs.Frames.{shown_shut}

@@ -10,9 +10,12 @@ use Rattle.mf_machine.specs.declared.view.View.{View}
 use Rattle.mf_machine.specs.Actors.{Active, Free, live}
 use Rattle.mf_machine.specs.Counts.{bit, times, total, beyond}
 use Rattle.mf_machine.specs.File.{File, Opening, State}
-use Rattle.mf_machine.specs.Rows.{fresh, spent_view, nothing_met, nothing_seen, outside, nothing_built, kept_share, old_half, new_half, joined}
-use Rattle.mf_machine.specs.Sums.{right_of, share_of, stray, pins, publishings, closings, puts, loses, loses_by, restores, drops, in_get, in_birth, in_retake, in_lose, in_drop, begun_of, opened_of, raises, sinks, hides, Tally, tally}
 use Rattle.mf_machine.specs.Ruled.{SeenIs, MetIs, Words, Sits, SitsIn, Ruled}
+use Rattle.mf_machine.specs.Steps.{kept_share, old_half, new_half, joined}
+use Rattle.mf_machine.specs.Sums.{right_of, share_of, stray, pins, publishings, closings, puts, loses, loses_by}
+use Rattle.mf_machine.specs.Sums.{restores, drops, in_get, in_birth, in_retake, in_lose, in_drop, begun_of, opened_of}
+use Rattle.mf_machine.specs.Sums.{raises, sinks, hides, Tally, tally}
+use Rattle.mf_machine.specs.Worlds.{fresh, spent_view, nothing_met, nothing_seen, outside, nothing_built}
 use Rattle.mf_machine.proofs.Lists.{at_set, at_snoc, at_append, bit_not, times-append, times_either, losses-append, lines-append, up_to_is, beyond_is}
 use Rattle.mf_machine.proofs.Totals.{total_set, total_snoc, all_begun-append, all_opened-append}
 use Rattle.mf_machine.proofs.Frames.{Grows, onward_same, builds_same, ends_same, idle_inside, sits_on}

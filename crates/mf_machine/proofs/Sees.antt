@@ -8,10 +8,10 @@ use Rattle.mf_machine.specs.declared.view.View.{View}
 use Rattle.mf_machine.specs.Actors.{Active, Idle}
 use Rattle.mf_machine.specs.File.{File, Opening, State}
 use Rattle.mf_machine.specs.Rest.{Rest}
-use Rattle.mf_machine.specs.Rows as row
-use Rattle.mf_machine.specs.Rows.{counted}
-use Rattle.mf_machine.specs.Sums.{tally}
 use Rattle.mf_machine.specs.Ruled.{Words, Ruled}
+use Rattle.mf_machine.specs.Sums.{tally}
+use Rattle.mf_machine.specs.Worlds.{counted}
+use Rattle.mf_machine.specs.Steps as row
 use Rattle.mf_machine.proofs.Lists.{bit_not, bit_eq, times_cons, lines_cons}
 use Rattle.mf_machine.proofs.Frames.{onward_same, builds_same, ends_same, idle_inside, sits_on}
 use Rattle.mf_machine.proofs.Steps.{Adds, adds_calm, part_same, After, grows, name_else, names_move, stepped}

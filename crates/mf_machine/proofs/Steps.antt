@@ -9,8 +9,10 @@ use Rattle.mf_machine.specs.declared.view.View.{View}
 use Rattle.mf_machine.specs.Actors.{has, on, live}
 use Rattle.mf_machine.specs.Counts.{bit, times, losses, lines, total}
 use Rattle.mf_machine.specs.File.{File, Opening, State, Holds, Home, HasCell}
-use Rattle.mf_machine.specs.Sums.{right_of, share_of, stray, pins, publishings, closings, puts, loses, loses_by, restores, drops, in_get, in_birth, in_retake, in_lose, in_drop, begun_of, opened_of, raises, sinks, hides, lost_bit, tally, counts}
 use Rattle.mf_machine.specs.Ruled.{NumberIs, PinsAre, NameIs, Words, SitsIn, Ruled}
+use Rattle.mf_machine.specs.Sums.{right_of, share_of, stray, pins, publishings, closings, puts, loses, loses_by}
+use Rattle.mf_machine.specs.Sums.{restores, drops, in_get, in_birth, in_retake, in_lose, in_drop, begun_of, opened_of}
+use Rattle.mf_machine.specs.Sums.{raises, sinks, hides, lost_bit, tally, counts}
 use Rattle.mf_machine.proofs.Lists.{at_set}
 use Rattle.mf_machine.proofs.Totals.{total_same, total_grows}
 use Rattle.mf_machine.proofs.Frames.{Grows, Onward, Builds, Ends, sits_on}

@@ -6,12 +6,13 @@ use Rattle.mf_machine.specs.declared.view.View.{View}
 use Rattle.mf_machine.specs.Actors.{Active, Free, PinHolds}
 use Rattle.mf_machine.specs.Counts.{bit}
 use Rattle.mf_machine.specs.File.{File, Opening, State, Home, HasCell}
-use Rattle.mf_machine.specs.File.Home.{away}
 use Rattle.mf_machine.specs.Rest.{Rest}
-use Rattle.mf_machine.specs.Rows as row
-use Rattle.mf_machine.specs.Rows.{counted}
-use Rattle.mf_machine.specs.Sums.{puts, loses, restores, drops, in_get, in_birth, in_retake, in_lose, in_drop, tally, counts}
 use Rattle.mf_machine.specs.Ruled.{Ruled}
+use Rattle.mf_machine.specs.Sums.{puts, loses, restores, drops, in_get, in_birth, in_retake, in_lose, in_drop, tally}
+use Rattle.mf_machine.specs.Sums.{counts}
+use Rattle.mf_machine.specs.Worlds.{steps, noted, counted}
+use Rattle.mf_machine.specs.File.Home.{away}
+use Rattle.mf_machine.specs.Steps as row
 use Rattle.mf_machine.proofs.Lists.{bit_is, bit_not, bit_eq, times_cons}
 use Rattle.mf_machine.proofs.Totals.{total_set, total_at}
 use Rattle.mf_machine.proofs.Frames.{Onward, Builds, Ends, sits_on}
@@ -132,10 +133,10 @@ module _ (f : File) (k : Opening) (s : State) (id : ℕ) (v : View) (rest : Rest
       }
 
   -- give
-  pub gives : (n : ℕ) → v.inside.getting ≡ n + 1 → ButName f s n p' r' pins' name' home' → name' n ≡ 1 → HasCell f n (home' n)
-      → Ruled f k (After f k s id v (row.gave v) p' r' pins' name' home')
-  gives n has_it but now full = let ep = but.number in let er = but.right in let epins = but.pins in let ename = but.names in let ehome = but.homes in
-      let w : View = row.gave v in let vs' : List View = set s.views id w in let mine = r.each id v at in let ws = r.words in
+  pub gives : (n i y : ℕ) → v.inside.getting ≡ n + 1 → ButName f s n p' r' pins' name' home' → name' n ≡ 1 → HasCell f n (home' n)
+      → Ruled f k (After f k s id v (noted steps i y (row.gave v)) p' r' pins' name' home')
+  gives n i y has_it but now full = let ep = but.number in let er = but.right in let epins = but.pins in let ename = but.names in let ehome = but.homes in
+      let w : View = noted steps i y (row.gave v) in let vs' : List View = set s.views id w in let mine = r.each id v at in let ws = r.words in
       let inside = (mine.inside.getting n has_it).0 in let one = bit_is v.inside.getting (n + 1) has_it in
       let none : bit 0 (n + 1) ≡ 0 = bit_not 0 (n + 1) (λ e. omega arith) in let there = total_at (in_get n) s.views id v at in
       let taken : s.name n ≡ 2 = (let t = (ws.names n inside).taken in bit_eq (s.name n) 2 (omega arith)) in

@@ -1,5 +1,5 @@
 -- What the value that a step meets tells its caller, under the rule.
-use Rattle.std.proofs.Common.{◌≡◌, ◌≢◌, ◌⊎◌, ℕ, ◌+◌, ◌*◌, ◌<◌, ◌≤◌, List, [], ◌∷◌, refl, ⊎_elim, inl, inr, arith}
+use Rattle.std.proofs.Common.{◌≡◌, ◌≢◌, ◌⊎◌, ℕ, ◌+◌, ◌*◌, ◌<◌, ◌≤◌, List, [], ◌∷◌, refl, inl, inr, arith}
 use mathlib.Core.Logic.{dite}
 use mathlib.Core.Option.{some}
 use native.Mathlib.Decide.{ℕ_discrete, dec_le}
@@ -8,11 +8,11 @@ use Rattle.mf_machine.specs.declared.view.View.{View}
 use Rattle.mf_machine.specs.Actors.{PinHolds, NextHolds}
 use Rattle.mf_machine.specs.Counts.{times, total}
 use Rattle.mf_machine.specs.File.{File, Opening, State, IsLoseLine, HasCell}
-use Rattle.mf_machine.specs.Sums.{share_of, stray, pins}
 use Rattle.mf_machine.specs.Ruled.{Ruled}
+use Rattle.mf_machine.specs.Sums.{share_of, stray, pins}
 use Rattle.mf_machine.proofs.Totals.{total_le}
 use Rattle.mf_machine.proofs.Pins.{open_word, spent_pins, live_le}
-use Rattle.mf_machine.proofs.Retakes.{pin_open, next_open}
+use Rattle.mf_machine.proofs.Retakes.{not_left}
 
 double : View → ℕ
 double v = 2 * v.share
@@ -41,7 +41,7 @@ module _ (f : File) (k : Opening) (s : State) (r : Ruled f k s) where
       let a = total_le (pins g) double s.views (λ j u e. small u (r.each j u e).spent (λ h. let b = ((r.each j u e).strays g h).0 in
       let c = (r.each j u e).seen.shut g b in absurd (omega arith))) in let b = double_total s.views in let c = r.words.shares in omega arith
     where
-      small : (u : View) → (u.share ≡ 0 → u ≡ Rattle.mf_machine.specs.Rows.spent_view) → (0 < stray g u → ⊥) → pins g u ≤ double u
+      small : (u : View) → (u.share ≡ 0 → u ≡ Rattle.mf_machine.specs.Worlds.spent_view) → (0 < stray g u → ⊥) → pins g u ≤ double u
       small u spent none = dite (ℕ_discrete u.share 0) (λ e. let z = spent_pins g u (spent e) in omega arith)
           (λ ne. let l = live_le g u in dite (ℕ_discrete (stray g u) 0) (λ z. omega arith) (λ nz. absurd (none (omega arith))))
 
@@ -51,9 +51,7 @@ module _ (f : File) (k : Opening) (s : State) (r : Ruled f k s) where
 
   pub seen_there : (id n : ℕ) (v : View) → get_elem? s.views id ≡ some v → n < f.names → PinHolds f v.hold v.work n ⊎ NextHolds f v.build v.last n
       → s.name n ≢ 3
-  seen_there id n v at inside may e = let left = (r.words.names n inside).left e in
-      ⊎_elim (λ t. let z = pin_open f k s id t.0 v r at t.1 t.2 in let y = left t.0 t.1 t.3 in omega arith)
-      (λ t. let z = next_open f k s id t.0 v r at t.1 in let y = left t.0 t.1.3 t.2 in omega arith) may
+  seen_there id n v at inside may = not_left f k s id n v r at inside may
 
   -- take: the name is Here with its cell, Taken, or Lost
   pub taken_is : (id n : ℕ) (v : View) → get_elem? s.views id ≡ some v → n < f.names → PinHolds f v.hold v.work n

@@ -8,22 +8,30 @@ use Rattle.mf_machine.specs.declared.view.Loss.{Loss}
 use Rattle.mf_machine.specs.declared.view.Made.{Made}
 use Rattle.mf_machine.specs.declared.view.Met.{Met}
 use Rattle.mf_machine.specs.declared.view.Seen.{Seen}
-use Rattle.mf_machine.specs.declared.view.Slot.{Slot}
-use Rattle.mf_machine.specs.declared.view.Slot.TheVariants.{Hold, Work}
+use Rattle.mf_machine.specs.declared.answer.Closed.{Closed}
+use Rattle.mf_machine.specs.declared.answer.Closed.TheVariants as closing
+use Rattle.mf_machine.specs.declared.answer.LoseStep.{LoseStep}
+use Rattle.mf_machine.specs.declared.answer.LoseStep.TheVariants as lose
+use Rattle.mf_machine.specs.declared.answer.State.{State as Told}
+use Rattle.mf_machine.specs.declared.answer.State.TheVariants as told
+use Rattle.mf_machine.specs.declared.answer.Slot.{Slot}
+use Rattle.mf_machine.specs.declared.answer.Slot.TheVariants.{Hold, Work}
 use Rattle.mf_machine.specs.declared.view.View.{View}
-use Rattle.mf_machine.specs.Answers as answer
-use Rattle.mf_machine.specs.Answers.{Closed, Found, Taken, Lose, Drop, pin_answer, pin_row, close_answer, close_row, begin_answer, begin_row, see_answer, see_row, take_answer, take_row, lose_answer, lose_row, drop_answer, drop_row, drop_again_answer, drop_again_row}
 use Rattle.mf_machine.specs.Counts.{times, losses, lines}
-use Rattle.mf_machine.specs.File.{File, Opening}
-use Rattle.mf_machine.specs.Laws.{GoesOn, mover, met_sum, SeenHas, MadeIs, MadeAlone, AnswersTell}
-use Rattle.mf_machine.specs.Moves.{World, Move, read, name_word, word_of, actor, noted, Fits, Opens, May, after, Runs, run, Reached}
-use Rattle.mf_machine.specs.Moves as move
+use Rattle.mf_machine.specs.File.{File, Opening, name_word}
+use Rattle.mf_machine.specs.Laws.{GoesOn, met_sum, SeenHas, MadeIs, MadeAlone, AnswersTell}
+use Rattle.mf_machine.specs.Moves.{Deed, MayDo, done, Move, May, after, Runs, run, Reached}
 use Rattle.mf_machine.specs.Rest.{Rest}
-use Rattle.mf_machine.specs.Rows as row
-use Rattle.mf_machine.specs.Rows.{counted, fresh, first_view, first_seen}
 use Rattle.mf_machine.specs.Ruled.{Ruled}
+use Rattle.mf_machine.specs.Steps.{Take, Drop, pin_answer, pin_view, close_answer, close_view, begin_answer, begin_view}
+use Rattle.mf_machine.specs.Steps.{see_answer, see_view, take_answer, take_view, lose_answer, lose_view, drop_answer}
+use Rattle.mf_machine.specs.Steps.{drop_view, drop_again_answer, drop_again_view}
+use Rattle.mf_machine.specs.Worlds.{World, read, word_of, actor, Fits, counted, fresh, first_view}
+use Rattle.mf_machine.specs.Worlds.{first_seen}
+use Rattle.mf_machine.specs.Moves as move
+use Rattle.mf_machine.specs.Steps as row
 use Rattle.mf_machine.proofs.Adding.{met_sum-append}
-use Rattle.mf_machine.proofs.Goes.{own_view, mine, from_at, grows_own, taken_in, taking_in}
+use Rattle.mf_machine.proofs.Goes.{own_view, met_at, gave_at, mine, from_at, grows_own, taken_in, taking_in}
 use Rattle.mf_machine.proofs.Laws.{here, one}
 use Rattle.mf_machine.proofs.Lists.{at_append, times_cons, times-append, lines-append}
 use Rattle.mf_machine.proofs.Openings.{opens}
@@ -96,7 +104,7 @@ alike v u e = record {
 }
 
 -- by the answer
-pins_in : (i x g : ℕ) (slot : Slot) (b : Bool) (v : View) → Enters v (counted i x (pin_row b slot g v))
+pins_in : (i x g : ℕ) (slot : Slot) (b : Bool) (v : View) → Enters v (counted i x (pin_view b slot g v))
 pins_in i x g Hold true v = record {
   numbers = λ m h. inl h;
   shut = λ g. omega arith;
@@ -141,8 +149,8 @@ unpins_in : (i x : ℕ) (slot : Slot) (v : View) → Enters v (counted i x (row.
 unpins_in i x Hold v = alike v (counted i x (row.unpinned Hold v)) refl
 unpins_in i x Work v = alike v (counted i x (row.unpinned Work v)) refl
 
-closes_in : (i x g : ℕ) (a : Closed) (v : View) → Enters v (counted i x (close_row a g v))
-closes_in i x g answer.done v = record {
+closes_in : (i x g : ℕ) (a : Closed) (v : View) → Enters v (counted i x (close_view a g v))
+closes_in i x g closing.Done v = record {
   numbers = λ m h. inl h;
   shut = λ g. omega arith;
   born = λ n. omega arith;
@@ -155,8 +163,8 @@ closes_in i x g answer.done v = record {
   restored = λ n. omega arith;
   made_dropped = λ n. omega arith;
 }
-closes_in i x g (answer.pins n) v = alike v (counted i x (row.closed_pins g n v)) refl
-closes_in i x g answer.already v = record {
+closes_in i x g (closing.Pins n) v = alike v (counted i x (row.closed_pins g n v)) refl
+closes_in i x g closing.Already v = record {
   numbers = λ m h. inl h;
   shut = λ g. omega arith;
   born = λ n. omega arith;
@@ -170,13 +178,13 @@ closes_in i x g answer.already v = record {
   made_dropped = λ n. omega arith;
 }
 
-begins_in : (i x : ℕ) (b : Bool) (v : View) → Enters v (counted i x (begin_row b v))
+begins_in : (i x : ℕ) (b : Bool) (v : View) → Enters v (counted i x (begin_view b v))
 begins_in i x true v = alike v (counted i x (row.begun v)) refl
 begins_in i x false v = alike v (counted i x (row.refused v)) refl
 
-sees_in : (i x n : ℕ) (a : Found) (v : View) → Enters v (counted i x (see_row a n v))
-sees_in i x n answer.unborn v = alike v (counted i x (row.told_unborn n v)) refl
-sees_in i x n answer.here v = record {
+sees_in : (i x n : ℕ) (a : Told) (v : View) → Enters v (counted i x (see_view a n v))
+sees_in i x n told.Unborn v = alike v (counted i x (row.told_unborn n v)) refl
+sees_in i x n told.Here v = record {
   numbers = λ m h. inl h;
   shut = λ g. omega arith;
   born = λ n. omega arith;
@@ -189,7 +197,8 @@ sees_in i x n answer.here v = record {
   restored = λ n. omega arith;
   made_dropped = λ n. omega arith;
 }
-sees_in i x n (answer.lost l) v = record {
+sees_in i x n (told.Away l) v = alike v (counted i x v) refl
+sees_in i x n (told.Lost l) v = record {
   numbers = λ m h. inl h;
   shut = λ g. omega arith;
   born = λ n. omega arith;
@@ -203,8 +212,8 @@ sees_in i x n (answer.lost l) v = record {
   made_dropped = λ n. omega arith;
 }
 
-takes_in : (i x n : ℕ) (a : Taken) (v : View) → Enters v (counted i x (take_row a n v))
-takes_in i x n answer.chunk v = record {
+takes_in : (i x n : ℕ) (a : Take) (v : View) → Enters v (counted i x (take_view a n v))
+takes_in i x n row.chunk v = record {
   numbers = λ m h. inl h;
   shut = λ g. omega arith;
   born = λ n. omega arith;
@@ -217,7 +226,7 @@ takes_in i x n answer.chunk v = record {
   restored = λ n. omega arith;
   made_dropped = λ n. omega arith;
 }
-takes_in i x n (answer.gone l) v = record {
+takes_in i x n (row.gone l) v = record {
   numbers = λ m h. inl h;
   shut = λ g. omega arith;
   born = λ n. omega arith;
@@ -230,19 +239,19 @@ takes_in i x n (answer.gone l) v = record {
   restored = λ n. omega arith;
   made_dropped = λ n. omega arith;
 }
-takes_in i x n answer.again v = alike v (counted i x v) refl
+takes_in i x n row.again v = alike v (counted i x v) refl
 
-loses_in : (i x n l : ℕ) (a : Lose) (v : View) → Enters v (counted i x (lose_row a n l v))
-loses_in i x n l answer.loses v = alike v (counted i x (row.losing n l v)) refl
-loses_in i x n l answer.waits v = alike v (counted i x v) refl
-loses_in i x n l answer.nothing v = alike v (counted i x (row.not_lost n v)) refl
+loses_in : (i x n l : ℕ) (a : LoseStep) (v : View) → Enters v (counted i x (lose_view a n l v))
+loses_in i x n l lose.Done v = alike v (counted i x (row.losing n l v)) refl
+loses_in i x n l lose.Again v = alike v (counted i x v) refl
+loses_in i x n l lose.Nothing v = alike v (counted i x (row.not_lost n v)) refl
 
-drops_in : (i x n y : ℕ) (a : Drop) (v : View) → Enters v (counted i x (drop_row a n y v))
-drops_in i x n y answer.drops v = alike v (counted i x (row.dropping n v)) refl
-drops_in i x n y answer.tries v = alike v (counted i x (row.trying n y v)) refl
-drops_in i x n y answer.stays v = alike v (counted i x (row.not_dropped n v)) refl
+drops_in : (i x n y : ℕ) (a : Drop) (v : View) → Enters v (counted i x (drop_view a n y v))
+drops_in i x n y row.drops v = alike v (counted i x (row.dropping n v)) refl
+drops_in i x n y row.tries v = alike v (counted i x (row.trying n y v)) refl
+drops_in i x n y row.nothing v = alike v (counted i x (row.not_dropped n v)) refl
 
-again_in : (i x n : ℕ) (b : Bool) (v : View) → Enters v (counted i x (drop_again_row b n v))
+again_in : (i x n : ℕ) (b : Bool) (v : View) → Enters v (counted i x (drop_again_view b n v))
 again_in i x n true v = record {
   numbers = λ m h. inl h;
   shut = λ g. omega arith;
@@ -345,8 +354,8 @@ abbrev AllTell : World → Type 0
 AllTell w = (j : ℕ) (v : View) → get_elem? w.views j ≡ some v → Tells v
 
 -- a move's own actor
-own_tells : (f : File) (w : World) (m : Move) → May f w m → GoesOn (actor w (mover m)) (own_view f w m) → AllTell w → Tells (own_view f w m)
-own_tells f w (move.look id) may o all = tells_on (actor w id) (own_view f w (move.look id)) o (record {
+own_tells : (f : File) (w : World) (id : ℕ) (d : Deed) → MayDo f w id d → GoesOn (actor w id) (own_view f w id d) → AllTell w → Tells (own_view f w id d)
+own_tells f w id move.look may o all = tells_on (actor w id) (own_view f w id move.look) o (record {
   numbers = λ m h. times_cons m (word_of w 0) (actor w id).own.numbers ((0 < times m (actor w id).own.numbers) ⊎ (m ≤ (word_of w 0))) (λ e. inr (omega arith)) (λ q. inl q) h;
   shut = λ g. omega arith;
   born = λ n. omega arith;
@@ -359,18 +368,18 @@ own_tells f w (move.look id) may o all = tells_on (actor w id) (own_view f w (mo
   restored = λ n. omega arith;
   made_dropped = λ n. omega arith;
 })
-    (all id (actor w id) (mine f w (move.look id) may))
-own_tells f w (move.pin id slot g) may o all = tells_on (actor w id) (own_view f w (move.pin id slot g)) o (pins_in (g + 2) (word_of w (g + 2)) g slot (pin_answer (word_of w (g + 2))) (actor w id))
-    (all id (actor w id) (mine f w (move.pin id slot g) may))
-own_tells f w (move.unpin id slot g) may o all = tells_on (actor w id) (own_view f w (move.unpin id slot g)) o (unpins_in (g + 2) (word_of w (g + 2)) slot (actor w id))
-    (all id (actor w id) (mine f w (move.unpin id slot g) may))
-own_tells f w (move.close id g) may o all = tells_on (actor w id) (own_view f w (move.close id g)) o (closes_in (g + 2) (word_of w (g + 2)) g (close_answer (word_of w (g + 2))) (actor w id))
-    (all id (actor w id) (mine f w (move.close id g) may))
-own_tells f w (move.begin id) may o all = tells_on (actor w id) (own_view f w (move.begin id)) o (begins_in 1 (word_of w 1) (begin_answer (word_of w 1)) (actor w id))
-    (all id (actor w id) (mine f w (move.begin id) may))
-own_tells f w (move.end id) may o all = tells_on (actor w id) (own_view f w (move.end id)) o (alike (actor w id) (noted w 1 (row.ended (actor w id))) refl)
-    (all id (actor w id) (mine f w (move.end id) may))
-own_tells f w (move.publish id next) may o all = tells_on (actor w id) (own_view f w (move.publish id next)) o (record {
+    (all id (actor w id) (mine f w id move.look may))
+own_tells f w id (move.pin slot g) may o all = tells_on (actor w id) (own_view f w id (move.pin slot g)) o (pins_in (g + 2) (word_of w (g + 2)) g slot (pin_answer (word_of w (g + 2))) (actor w id))
+    (all id (actor w id) (mine f w id (move.pin slot g) may))
+own_tells f w id (move.unpin slot g) may o all = tells_on (actor w id) (own_view f w id (move.unpin slot g)) o (unpins_in (g + 2) (word_of w (g + 2)) slot (actor w id))
+    (all id (actor w id) (mine f w id (move.unpin slot g) may))
+own_tells f w id (move.close g) may o all = tells_on (actor w id) (own_view f w id (move.close g)) o (closes_in (g + 2) (word_of w (g + 2)) g (close_answer (word_of w (g + 2))) (actor w id))
+    (all id (actor w id) (mine f w id (move.close g) may))
+own_tells f w id move.begin may o all = tells_on (actor w id) (own_view f w id move.begin) o (begins_in 1 (word_of w 1) (begin_answer (word_of w 1)) (actor w id))
+    (all id (actor w id) (mine f w id move.begin may))
+own_tells f w id move.end may o all = tells_on (actor w id) (own_view f w id move.end) o (alike (actor w id) (met_at w 1 (row.ended (actor w id))) refl)
+    (all id (actor w id) (mine f w id move.end may))
+own_tells f w id (move.publish next) may o all = tells_on (actor w id) (own_view f w id (move.publish next)) o (record {
   numbers = λ m h. times_cons m next (actor w id).own.numbers ((0 < times m (actor w id).own.numbers) ⊎ (m ≤ next)) (λ e. inr (omega arith)) (λ q. inl q) h;
   shut = λ g. omega arith;
   born = λ n. omega arith;
@@ -383,16 +392,16 @@ own_tells f w (move.publish id next) may o all = tells_on (actor w id) (own_view
   restored = λ n. omega arith;
   made_dropped = λ n. omega arith;
 })
-    (all id (actor w id) (mine f w (move.publish id next) may))
-own_tells f w (move.see id n) may o all = tells_on (actor w id) (own_view f w (move.see id n)) o (sees_in (name_word f n) (word_of w (name_word f n)) n (see_answer (word_of w (name_word f n))) (actor w id))
-    (all id (actor w id) (mine f w (move.see id n) may))
-own_tells f w (move.take id n) may o all = tells_on (actor w id) (own_view f w (move.take id n)) o (takes_in (name_word f n) (word_of w (name_word f n)) n (take_answer (word_of w (name_word f n))) (actor w id))
-    (all id (actor w id) (mine f w (move.take id n) may))
-own_tells f w (move.give id n) may o all = tells_on (actor w id) (own_view f w (move.give id n)) o (alike (actor w id) (row.gave (actor w id)) refl)
-    (all id (actor w id) (mine f w (move.give id n) may))
-own_tells f w (move.birth id n) may o all = tells_on (actor w id) (own_view f w (move.birth id n)) o (alike (actor w id) (noted w (name_word f n) (row.bearing n (actor w id))) refl)
-    (all id (actor w id) (mine f w (move.birth id n) may))
-own_tells f w (move.born id n) may o all = tells_on (actor w id) (own_view f w (move.born id n)) o (record {
+    (all id (actor w id) (mine f w id (move.publish next) may))
+own_tells f w id (move.see n) may o all = tells_on (actor w id) (own_view f w id (move.see n)) o (sees_in (name_word f n) (word_of w (name_word f n)) n (see_answer (word_of w (name_word f n))) (actor w id))
+    (all id (actor w id) (mine f w id (move.see n) may))
+own_tells f w id (move.take n) may o all = tells_on (actor w id) (own_view f w id (move.take n)) o (takes_in (name_word f n) (word_of w (name_word f n)) n (take_answer (word_of w (name_word f n))) (actor w id))
+    (all id (actor w id) (mine f w id (move.take n) may))
+own_tells f w id (move.give n) may o all = tells_on (actor w id) (own_view f w id (move.give n)) o (alike (actor w id) (gave_at f w id n) refl)
+    (all id (actor w id) (mine f w id (move.give n) may))
+own_tells f w id (move.birth n) may o all = tells_on (actor w id) (own_view f w id (move.birth n)) o (alike (actor w id) (met_at w (name_word f n) (row.bearing n (actor w id))) refl)
+    (all id (actor w id) (mine f w id (move.birth n) may))
+own_tells f w id (move.born n) may o all = tells_on (actor w id) (own_view f w id (move.born n)) o (record {
   numbers = λ m h. inl h;
   shut = λ g. omega arith;
   born = λ n. omega arith;
@@ -405,10 +414,10 @@ own_tells f w (move.born id n) may o all = tells_on (actor w id) (own_view f w (
   restored = λ n. omega arith;
   made_dropped = λ n. omega arith;
 })
-    (all id (actor w id) (mine f w (move.born id n) may))
-own_tells f w (move.lose id n l) may o all = tells_on (actor w id) (own_view f w (move.lose id n l)) o (loses_in (name_word f n) (word_of w (name_word f n)) n l (lose_answer (word_of w (name_word f n))) (actor w id))
-    (all id (actor w id) (mine f w (move.lose id n l) may))
-own_tells f w (move.lost id n l) may o all = tells_on (actor w id) (own_view f w (move.lost id n l)) o (record {
+    (all id (actor w id) (mine f w id (move.born n) may))
+own_tells f w id (move.lose n l) may o all = tells_on (actor w id) (own_view f w id (move.lose n l)) o (loses_in (name_word f n) (word_of w (name_word f n)) n l (lose_answer (word_of w (name_word f n))) (actor w id))
+    (all id (actor w id) (mine f w id (move.lose n l) may))
+own_tells f w id (move.lost n l) may o all = tells_on (actor w id) (own_view f w id (move.lost n l)) o (record {
   numbers = λ m h. inl h;
   shut = λ g. omega arith;
   born = λ n. omega arith;
@@ -421,10 +430,10 @@ own_tells f w (move.lost id n l) may o all = tells_on (actor w id) (own_view f w
   restored = λ n. omega arith;
   made_dropped = λ n. omega arith;
 })
-    (all id (actor w id) (mine f w (move.lost id n l) may))
-own_tells f w (move.retake id n) may o all = tells_on (actor w id) (own_view f w (move.retake id n)) o (alike (actor w id) (noted w (name_word f n) (row.retaking n (actor w id))) refl)
-    (all id (actor w id) (mine f w (move.retake id n) may))
-own_tells f w (move.restored id n) may o all = tells_on (actor w id) (own_view f w (move.restored id n)) o (record {
+    (all id (actor w id) (mine f w id (move.lost n l) may))
+own_tells f w id (move.retake n) may o all = tells_on (actor w id) (own_view f w id (move.retake n)) o (alike (actor w id) (met_at w (name_word f n) (row.retaking n (actor w id))) refl)
+    (all id (actor w id) (mine f w id (move.retake n) may))
+own_tells f w id (move.restored n) may o all = tells_on (actor w id) (own_view f w id (move.restored n)) o (record {
   numbers = λ m h. inl h;
   shut = λ g. omega arith;
   born = λ n. omega arith;
@@ -437,12 +446,12 @@ own_tells f w (move.restored id n) may o all = tells_on (actor w id) (own_view f
   restored = λ n. omega arith;
   made_dropped = λ n. omega arith;
 })
-    (all id (actor w id) (mine f w (move.restored id n) may))
-own_tells f w (move.drop id n) may o all = tells_on (actor w id) (own_view f w (move.drop id n)) o (drops_in (name_word f n) (word_of w (name_word f n)) n (word_of w (name_word f n)) (drop_answer (word_of w (name_word f n))) (actor w id))
-    (all id (actor w id) (mine f w (move.drop id n) may))
-own_tells f w (move.drop_again id n) may o all = tells_on (actor w id) (own_view f w (move.drop_again id n)) o (again_in (name_word f n) (word_of w (name_word f n)) n (drop_again_answer (actor w id).inside.tried (word_of w (name_word f n))) (actor w id))
-    (all id (actor w id) (mine f w (move.drop_again id n) may))
-own_tells f w (move.dropped id n) may o all = tells_on (actor w id) (own_view f w (move.dropped id n)) o (record {
+    (all id (actor w id) (mine f w id (move.restored n) may))
+own_tells f w id (move.drop n) may o all = tells_on (actor w id) (own_view f w id (move.drop n)) o (drops_in (name_word f n) (word_of w (name_word f n)) n (word_of w (name_word f n)) (drop_answer (word_of w (name_word f n))) (actor w id))
+    (all id (actor w id) (mine f w id (move.drop n) may))
+own_tells f w id (move.drop_again n) may o all = tells_on (actor w id) (own_view f w id (move.drop_again n)) o (again_in (name_word f n) (word_of w (name_word f n)) n (drop_again_answer (actor w id).inside.tried (word_of w (name_word f n))) (actor w id))
+    (all id (actor w id) (mine f w id (move.drop_again n) may))
+own_tells f w id (move.dropped n) may o all = tells_on (actor w id) (own_view f w id (move.dropped n)) o (record {
   numbers = λ m h. inl h;
   shut = λ g. omega arith;
   born = λ n. omega arith;
@@ -455,23 +464,23 @@ own_tells f w (move.dropped id n) may o all = tells_on (actor w id) (own_view f 
   restored = λ n. omega arith;
   made_dropped = λ n. omega arith;
 })
-    (all id (actor w id) (mine f w (move.dropped id n) may))
-own_tells f w (move.exchange id h) may o all = all id (actor w id) (mine f w (move.exchange id h) may)
-own_tells f w (move.split id) may o all = tells_on (actor w id) (row.old_half (actor w id)) o (alike (actor w id) (row.old_half (actor w id)) refl)
-    (all id (actor w id) (mine f w (move.split id) may))
-own_tells f w (move.join id other) may o all = tells_both (actor w id) (actor w other) (all id (actor w id) (mine f w (move.join id other) may))
+    (all id (actor w id) (mine f w id (move.dropped n) may))
+own_tells f w id (move.exchange h) may o all = all id (actor w id) (mine f w id (move.exchange h) may)
+own_tells f w id move.split may o all = tells_on (actor w id) (row.old_half (actor w id)) o (alike (actor w id) (row.old_half (actor w id)) refl)
+    (all id (actor w id) (mine f w id move.split may))
+own_tells f w id (move.join other) may o all = tells_both (actor w id) (actor w other) (all id (actor w id) (mine f w id (move.join other) may))
     (all other (actor w other) (here w other may.1.1))
 
 -- every list of moves keeps it so
-tells_after : (f : File) (w : World) (m : Move) → May f w m → GoesOn (actor w (mover m)) (own_view f w m) → AllTell w → AllTell (after f w m)
-tells_after f w m may o all j z at = ⊎_elim (λ e. subst Tells e (own_tells f w m may o all)) (λ t. ⊎_elim (λ a. all j z a)
-    (λ q. subst Tells q.3 (tells_blank q.0 q.1 q.2)) t) (from_at f w m may j z at)
+tells_after : (f : File) (w : World) (m : Move) → May f w m → GoesOn (actor w m.who) (own_view f w m.who m.does) → AllTell w → AllTell (after f w m)
+tells_after f w m may o all j z at = ⊎_elim (λ e. subst Tells e (own_tells f w m.who m.does may o all)) (λ t. ⊎_elim (λ a. all j z a)
+    (λ q. subst Tells q.3 (tells_blank q.0 q.1 q.2)) t) (from_at f w m.who m.does may j z at)
 
 tells_all : (f : File) (k : Opening) → Rest f k → (w : World) (ms : List Move) → Runs f w ms → Fits f w × Ruled f k (read f w) → AllTell w
     → AllTell (run f w ms)
 tells_all f k rest w [] runs good all = all
 tells_all f k rest w (m ∷ ms) runs good all = tells_all f k rest (after f w m) ms runs.1 (one f k rest w m runs.0 good)
-    (tells_after f w m runs.0 (grows_own f w m runs.0 (rules.number f k (read f w) rest good.1)) all)
+    (tells_after f w m runs.0 (grows_own f w m.who m.does runs.0 (rules.number f k (read f w) rest good.1)) all)
 
 first_tells : (f : File) (k : Opening) (j : ℕ) (v : View) → get_elem? (first_view f k ∷ []) j ≡ some v → Tells v
 first_tells f k zero v e = subst Tells (some-injective (first_view f k) v e) (tells_blank (2 ^ 30) [] (first_seen f k))

@@ -10,9 +10,10 @@ use Rattle.mf_machine.specs.declared.view.View.{View}
 use Rattle.mf_machine.specs.Actors.{has}
 use Rattle.mf_machine.specs.Counts.{bit, truth, total, lines}
 use Rattle.mf_machine.specs.File.{File, Opening, State, Holds, IsLoseLine, Home, HasCell, Unharmed}
-use Rattle.mf_machine.specs.File.Home.{away, empty, keeps}
-use Rattle.mf_machine.specs.Sums.{puts, loses, restores, drops, in_birth, in_retake, in_lose, in_drop, raises, sinks, hides, lost_bit, Tally, tally, Counts, counts, closings}
 use Rattle.mf_machine.specs.Ruled.{NameIs, Words}
+use Rattle.mf_machine.specs.Sums.{puts, loses, restores, drops, in_birth, in_retake, in_lose, in_drop, raises, sinks}
+use Rattle.mf_machine.specs.Sums.{hides, lost_bit, Tally, tally, Counts, counts, closings}
+use Rattle.mf_machine.specs.File.Home.{away, empty, keeps}
 use Rattle.mf_machine.proofs.Lists.{bit_not}
 use Rattle.mf_machine.proofs.Totals.{total_grows}
 use Rattle.mf_machine.proofs.Frames.{Onward, Builds, Ends}

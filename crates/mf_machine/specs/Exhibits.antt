@@ -4,36 +4,40 @@ use Rattle.mf_machine.specs.declared.view.Met.{Met}
 use Rattle.mf_machine.specs.declared.view.View.{View}
 use Rattle.mf_machine.specs.Counts.{times, losses, foreign}
 use Rattle.mf_machine.specs.File.{File, Opening, State}
-use Rattle.mf_machine.specs.Kept.{IsActor, IsMetOf, Number, Pins, Born, Seen, Builder, Dropped, Losses}
-use Rattle.mf_machine.specs.Kept.{Cells, Accounted, Caused}
-use Rattle.mf_machine.specs.Moves.{World, Move, read, Opens, Runs, run}
-use Rattle.mf_machine.specs.Moves as move
+use Rattle.mf_machine.specs.Kept.{IsActor, IsMetOf, Number, Pins, Born, Seen, Builder, Dropped, Losses, Cells}
+use Rattle.mf_machine.specs.Kept.{Accounted, Caused}
+use Rattle.mf_machine.specs.Moves.{Move, Deed, Runs, run}
 use Rattle.mf_machine.specs.Rest.{Rest}
+use Rattle.mf_machine.specs.Worlds.{World, read, Opens}
+use Rattle.mf_machine.specs.Moves as move
 
 -- the fourteen kinds of step in the order of their table, and the others after them
+abbrev pub kind_of : Deed → ℕ
+kind_of move.look = 0
+kind_of (move.pin slot g) = 1
+kind_of (move.unpin slot g) = 2
+kind_of (move.close g) = 3
+kind_of move.begin = 4
+kind_of move.end = 5
+kind_of (move.publish next) = 6
+kind_of (move.see n) = 7
+kind_of (move.birth n) = 8
+kind_of (move.take n) = 9
+kind_of (move.give n) = 10
+kind_of (move.lose n l) = 11
+kind_of (move.retake n) = 12
+kind_of (move.drop n) = 13
+kind_of (move.drop_again n) = 14
+kind_of (move.born n) = 15
+kind_of (move.lost n l) = 15
+kind_of (move.restored n) = 15
+kind_of (move.dropped n) = 15
+kind_of (move.exchange h) = 16
+kind_of move.split = 17
+kind_of (move.join other) = 18
+
 abbrev pub kind : Move → ℕ
-kind (move.look id) = 0
-kind (move.pin id slot g) = 1
-kind (move.unpin id slot g) = 2
-kind (move.close id g) = 3
-kind (move.begin id) = 4
-kind (move.end id) = 5
-kind (move.publish id next) = 6
-kind (move.see id n) = 7
-kind (move.birth id n) = 8
-kind (move.take id n) = 9
-kind (move.give id n) = 10
-kind (move.lose id n l) = 11
-kind (move.retake id n) = 12
-kind (move.drop id n) = 13
-kind (move.drop_again id n) = 14
-kind (move.born id n) = 15
-kind (move.lost id n l) = 15
-kind (move.restored id n) = 15
-kind (move.dropped id n) = 15
-kind (move.exchange id h) = 16
-kind (move.split id) = 17
-kind (move.join id other) = 18
+kind m = kind_of m.does
 
 -- each number below n stands in the list
 abbrev pub Each : ℕ → List ℕ → Type 0

@@ -2,6 +2,7 @@
 use Rattle.std.specs.Prelude.{◌≡◌, ℕ, ◌+◌, ◌<◌, ◌==◌, Bool, true, List, [], ◌∷◌, cond}
 use Rattle.mf_machine.specs.declared.view.View.{View}
 use Rattle.mf_machine.specs.Counts.{bit}
+use Rattle.mf_machine.specs.Words.{nth_name_word, removed_of}
 
 -- a lose line of the script, with its server
 pub record Line : Type 0 where
@@ -17,6 +18,13 @@ pub record File : Type 0 where
   pub server : ℕ → ℕ
   pub cell : ℕ → List ℕ
   pub losses : List Line
+
+-- the word of a name, and the number of the file once it is removed
+abbrev pub name_word : File → ℕ → ℕ
+name_word f n = nth_name_word f.stages n
+
+abbrev pub removed : File → ℕ
+removed f = removed_of f.stages
 
 -- generation g holds the name
 abbrev pub Holds : File → ℕ → ℕ → Type 0

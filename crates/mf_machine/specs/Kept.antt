@@ -4,11 +4,14 @@ use mathlib.Core.Option.{some}
 use lib.ListN.{get_elem?}
 use Rattle.mf_machine.specs.declared.view.Met.{Met}
 use Rattle.mf_machine.specs.declared.view.View.{View}
-use Rattle.mf_machine.specs.Actors.{live, PinHolds}
+use Rattle.mf_machine.specs.Actors.{Among, HasRight, HasLooked, LastLooked, SawShut, IsGetting, IsBearing, IsRetaking}
+use Rattle.mf_machine.specs.Actors.{IsLosing, IsDropping, live, PinHolds}
 use Rattle.mf_machine.specs.Counts.{times, lines, foreign, total}
-use Rattle.mf_machine.specs.File.{File, Opening, State, Holds, IsLoseLine, HasCell}
+use Rattle.mf_machine.specs.File.{File, removed, Opening, State, Holds, IsLoseLine, HasCell}
 use Rattle.mf_machine.specs.Sums.{publishings, closings, puts, loses, loses_by, restores, drops, in_birth, in_retake}
 use Rattle.mf_machine.specs.Sums.{in_lose, in_drop, begun_of, opened_of, lost_bit}
+use Rattle.mf_machine.specs.Words as word
+use Rattle.mf_machine.specs.Words.{number_of, closed_bit, IsLost}
 
 -- v is the actor with the number j
 abbrev pub IsActor : State → ℕ → View → Type 0
@@ -16,7 +19,7 @@ IsActor s j v = get_elem? s.views j ≡ some v
 
 -- the generation is closed
 abbrev pub IsClosed : State → ℕ → Type 0
-IsClosed s g = 9223372036854775808 ≤ s.pins g
+IsClosed s g = closed_bit ≤ s.pins g
 
 -- this is the actor's own Met, or that of an actor that it took in
 abbrev pub IsMetOf : View → Met → Type 0
@@ -25,11 +28,11 @@ IsMetOf v m = (m ≡ v.own) ⊎ ((i : ℕ) × (get_elem? v.gone i ≡ some m))
 -- the actor has seen the published number m: it is the greatest that it has seen, or it stands in its Met or in that of
 -- an actor that it took in
 abbrev pub HasSeen : View → ℕ → Type 0
-HasSeen v m = (m ≡ v.seen.number) ⊎ ((c : Met) × IsMetOf v c × (0 < times m c.numbers))
+HasSeen v m = (m ≡ v.seen.number) ⊎ ((c : Met) × IsMetOf v c × Among m c.numbers)
 
 -- no name of generation g is Unborn
 abbrev pub IsBorn : File → State → ℕ → Type 0
-IsBorn f s g = (n : ℕ) → n < f.names → Holds f g n → s.name n ≢ 0
+IsBorn f s g = (n : ℕ) → n < f.names → Holds f g n → s.name n ≢ word.unborn
 
 -- some actor has made this, or is inside of it: it stands in all of them together
 abbrev pub Stands : (View → ℕ) → State → Type 0
@@ -37,67 +40,66 @@ Stands deed s = 0 < total deed s.views
 
 -- the actor is inside its own birth, retake, lose or drop of the name
 abbrev pub IsInside : View → ℕ → Type 0
-IsInside v n = (v.inside.bearing ≡ n + 1) ⊎ ((v.inside.retaking ≡ n + 1)
-    ⊎ ((v.inside.losing ≡ n + 1) ⊎ (v.inside.dropping ≡ n + 1)))
+IsInside v n = IsBearing v.inside n ⊎ (IsRetaking v.inside n ⊎ (IsLosing v.inside n ⊎ IsDropping v.inside n))
 
 -- the actor has the name Taken
 abbrev pub HasTaken : View → ℕ → Type 0
-HasTaken v n = (v.inside.getting ≡ n + 1) ⊎ IsInside v n
+HasTaken v n = IsGetting v.inside n ⊎ IsInside v n
 
 -- 1: the published number is at most q + 1 and not below any number that an actor has seen; where the right's holder
 -- has looked since its begin, it last looked at this number
 pub record Number (f : File) (s : State) : Type 0 where
-  pub top : s.number ≤ f.stages + 1
+  pub top : s.number ≤ removed f
   pub seen : (j : ℕ) (v : View) → IsActor s j v → (m : ℕ) → HasSeen v m → m ≤ s.number
-  pub holder : (j : ℕ) (v : View) → IsActor s j v → v.build.right ≡ 1 → v.build.looked ≡ 1 → v.last ≡ s.number + 1
+  pub holder : (j : ℕ) (v : View) → IsActor s j v → HasRight v.build → HasLooked v.build → LastLooked v.last s.number
 
 -- 2: a closed generation g has no pin, and g + 1 is below the published number; a pinned one isn't closed, and its
 -- holder has seen g + 1
 pub record Pins (f : File) (s : State) : Type 0 where
   pub closed : (g : ℕ) → g < f.stages → IsClosed s g
-      → (g + 1 < s.number) × ((j : ℕ) (v : View) → IsActor s j v → live g v ≡ 0)
+      → (number_of g < s.number) × ((j : ℕ) (v : View) → IsActor s j v → live g v ≡ 0)
   pub pinned : (j : ℕ) (v : View) → IsActor s j v → (g : ℕ) → 0 < live g v
-      → (g < f.stages) × (IsClosed s g → ⊥) × HasSeen v (g + 1)
+      → (g < f.stages) × (IsClosed s g → ⊥) × HasSeen v (number_of g)
 
 -- 3: the published generation has no Unborn name, and neither has one whose number an actor has seen
 pub record Born (f : File) (s : State) : Type 0 where
-  pub published : (g : ℕ) → g < f.stages → s.number ≡ g + 1 → IsBorn f s g
-  pub seen : (j : ℕ) (v : View) → IsActor s j v → (g : ℕ) → g < f.stages → HasSeen v (g + 1) → IsBorn f s g
+  pub published : (g : ℕ) → g < f.stages → s.number ≡ number_of g → IsBorn f s g
+  pub seen : (j : ℕ) (v : View) → IsActor s j v → (g : ℕ) → g < f.stages → HasSeen v (number_of g) → IsBorn f s g
 
 -- 4: what an actor has seen closed is closed; what it has seen not Unborn isn't Unborn; what it has dropped is Dropped
 pub record Seen (f : File) (s : State) : Type 0 where
-  pub closed : (j : ℕ) (v : View) → IsActor s j v → (g : ℕ) → g < f.stages → 0 < times g v.seen.shut → IsClosed s g
-  pub born : (j : ℕ) (v : View) → IsActor s j v → (n : ℕ) → 0 < times n v.seen.born → s.name n ≢ 0
-  pub dropped : (j : ℕ) (v : View) → IsActor s j v → (n : ℕ) → 0 < times n v.seen.dropped → s.name n ≡ 3
+  pub closed : (j : ℕ) (v : View) → IsActor s j v → (g : ℕ) → g < f.stages → SawShut g v → IsClosed s g
+  pub born : (j : ℕ) (v : View) → IsActor s j v → (n : ℕ) → Among n v.seen.born → s.name n ≢ word.unborn
+  pub dropped : (j : ℕ) (v : View) → IsActor s j v → (n : ℕ) → Among n v.seen.dropped → s.name n ≡ word.dropped
 
 -- 5: a name that the right's holder was answered Unborn since its begin, and hasn't put since, is Unborn, or Taken in
 -- its own birth; one that it was answered Lost, and hasn't restored since, is Lost or Dropped, or Taken in its own
 -- retake
 pub record Builder (f : File) (s : State) : Type 0 where
-  pub unborn : (j : ℕ) (v : View) → IsActor s j v → v.build.right ≡ 1 → (n : ℕ) → 0 < times n v.build.unborn
-      → (s.name n ≡ 0) ⊎ ((s.name n ≡ 2) × (v.inside.bearing ≡ n + 1))
-  pub lost : (j : ℕ) (v : View) → IsActor s j v → v.build.right ≡ 1 → (n : ℕ) → 0 < times n v.build.lost
-      → (4 ≤ s.name n) ⊎ ((s.name n ≡ 3) ⊎ ((s.name n ≡ 2) × (v.inside.retaking ≡ n + 1)))
+  pub unborn : (j : ℕ) (v : View) → IsActor s j v → HasRight v.build → (n : ℕ) → Among n v.build.unborn
+      → (s.name n ≡ word.unborn) ⊎ ((s.name n ≡ word.taken) × IsBearing v.inside n)
+  pub lost : (j : ℕ) (v : View) → IsActor s j v → HasRight v.build → (n : ℕ) → Among n v.build.lost
+      → IsLost (s.name n) ⊎ ((s.name n ≡ word.dropped) ⊎ ((s.name n ≡ word.taken) × IsRetaking v.inside n))
 
 -- 6: a name is Dropped, or Taken in a drop, only where each generation that holds it is closed
 pub record Dropped (f : File) (s : State) : Type 0 where
-  pub done : (n : ℕ) → n < f.names → s.name n ≡ 3 → (g : ℕ) → g < f.stages → Holds f g n → IsClosed s g
-  pub doing : (j : ℕ) (v : View) → IsActor s j v → (n : ℕ) → v.inside.dropping ≡ n + 1
+  pub done : (n : ℕ) → n < f.names → s.name n ≡ word.dropped → (g : ℕ) → g < f.stages → Holds f g n → IsClosed s g
+  pub doing : (j : ℕ) (v : View) → IsActor s j v → (n : ℕ) → IsDropping v.inside n
       → (g : ℕ) → g < f.stages → Holds f g n → IsClosed s g
 
 -- 7: Lost(line) stands only where there is a lose line of the name's server with this number
 abbrev pub Losses : File → State → Type 0
-Losses f s = (n l : ℕ) → n < f.names → s.name n ≡ 4 + l → IsLoseLine f n l
+Losses f s = (n l : ℕ) → n < f.names → s.name n ≡ word.lost l → IsLoseLine f n l
 
 -- 8: a name that is Here has its cell in its slot; a Taken name is one actor's, which has a pin whose generation holds
 -- it or is inside its own birth, retake, lose or drop
 pub record Cells (f : File) (s : State) : Type 0 where
-  pub here : (n : ℕ) → n < f.names → s.name n ≡ 1 → HasCell f n (s.home n)
-  pub taken : (n : ℕ) → n < f.names → s.name n ≡ 2
+  pub here : (n : ℕ) → n < f.names → s.name n ≡ word.here → HasCell f n (s.home n)
+  pub taken : (n : ℕ) → n < f.names → s.name n ≡ word.taken
       → (j : ℕ) × (v : View) × IsActor s j v × HasTaken v n
       × ((i : ℕ) (u : View) → IsActor s i u → HasTaken u n → i ≡ j)
   pub held : (j : ℕ) (v : View) → IsActor s j v → (n : ℕ) → HasTaken v n
-      → (n < f.names) × (s.name n ≡ 2) × (PinHolds f v.hold v.work n ⊎ IsInside v n)
+      → (n < f.names) × (s.name n ≡ word.taken) × (PinHolds f v.hold v.work n ⊎ IsInside v n)
 
 -- 9: all that the actors made accounts for the state
 pub record Accounted (f : File) (k : Opening) (s : State) : Type 0 where
@@ -108,47 +110,47 @@ pub record Accounted (f : File) (k : Opening) (s : State) : Type 0 where
   pub published_once : (m : ℕ) → Stands (publishings m) s → (total (publishings m) s.views ≡ 1) × (k.number < m)
   pub closed_once : (g : ℕ) → g < f.stages → Stands (closings g) s
       → (total (closings g) s.views ≡ 1) × (k.closed g ≢ true)
-  pub put_once : (n : ℕ) → n < f.names → Stands (puts n) s → (total (puts n) s.views ≡ 1) × (k.name n ≡ 0)
-  pub dropped_once : (n : ℕ) → n < f.names → Stands (drops n) s → (total (drops n) s.views ≡ 1) × (k.name n ≢ 3)
+  pub put_once : (n : ℕ) → n < f.names → Stands (puts n) s → (total (puts n) s.views ≡ 1) × (k.name n ≡ word.unborn)
+  pub dropped_once : (n : ℕ) → n < f.names → Stands (drops n) s → (total (drops n) s.views ≡ 1) × (k.name n ≢ word.dropped)
   -- a generation is closed exactly where it was so or some actor has closed it
   pub closed : (g : ℕ) → g < f.stages → IsClosed s g ↔ ((k.closed g ≡ true) ⊎ Stands (closings g) s)
   -- a name is Unborn, or Taken in a birth, exactly where it was Unborn and no actor has put it
   pub unborn : (n : ℕ) → n < f.names
-      → ((s.name n ≡ 0) ⊎ Stands (in_birth n) s) ↔ ((k.name n ≡ 0) × (total (puts n) s.views ≡ 0))
+      → ((s.name n ≡ word.unborn) ⊎ Stands (in_birth n) s) ↔ ((k.name n ≡ word.unborn) × (total (puts n) s.views ≡ 0))
   -- a name is Dropped exactly where it was so or some actor has dropped it
-  pub dropped : (n : ℕ) → n < f.names → (s.name n ≡ 3) ↔ ((k.name n ≡ 3) ⊎ Stands (drops n) s)
+  pub dropped : (n : ℕ) → n < f.names → (s.name n ≡ word.dropped) ↔ ((k.name n ≡ word.dropped) ⊎ Stands (drops n) s)
   -- where a name isn't Dropped, its losses, with the opening's, are one more than its restores where it is Lost or
   -- Taken in a retake, and else as many
-  pub lost : (n : ℕ) → n < f.names → s.name n ≢ 3 → (4 ≤ s.name n) ⊎ Stands (in_retake n) s
+  pub lost : (n : ℕ) → n < f.names → s.name n ≢ word.dropped → IsLost (s.name n) ⊎ Stands (in_retake n) s
       → total (loses n) s.views + lost_bit (k.name n) ≡ total (restores n) s.views + 1
-  pub kept : (n : ℕ) → n < f.names → s.name n ≢ 3 → s.name n < 4 → total (in_retake n) s.views ≡ 0
+  pub kept : (n : ℕ) → n < f.names → s.name n ≢ word.dropped → s.name n < word.lost 0 → total (in_retake n) s.views ≡ 0
       → total (loses n) s.views + lost_bit (k.name n) ≡ total (restores n) s.views
   -- Lost(line) stands only where it was so or some actor has lost the name with that line
-  pub line : (n l : ℕ) → n < f.names → s.name n ≡ 4 + l → (k.name n ≡ 4 + l) ⊎ Stands (loses_by n l) s
+  pub line : (n l : ℕ) → n < f.names → s.name n ≡ word.lost l → (k.name n ≡ word.lost l) ⊎ Stands (loses_by n l) s
 
 -- the causes of the answers of one Met
 pub record Causes (k : Opening) (s : State) (m : Met) : Type 0 where
   -- a number looked at was the opening one, or some actor has published it
-  pub number : (n : ℕ) → 0 < times n m.numbers → (n ≡ k.number) ⊎ Stands (publishings n) s
+  pub number : (n : ℕ) → Among n m.numbers → (n ≡ k.number) ⊎ Stands (publishings n) s
   -- a generation answered Already, or whose pin was answered false, was closed at the opening, or some actor has closed
   -- it
   pub closed : (g : ℕ) → 0 < times g m.already + times g m.missed → (k.closed g ≡ true) ⊎ Stands (closings g) s
   -- a name answered Unborn was Unborn at the opening
-  pub unborn : (n : ℕ) → 0 < times n m.unborn → k.name n ≡ 0
+  pub unborn : (n : ℕ) → Among n m.unborn → k.name n ≡ word.unborn
   -- one answered Lost(line) was so at the opening, or some actor has lost it with that line
-  pub lost : (n l : ℕ) → 0 < lines n l m.lost → (k.name n ≡ 4 + l) ⊎ Stands (loses_by n l) s
+  pub lost : (n l : ℕ) → 0 < lines n l m.lost → (k.name n ≡ word.lost l) ⊎ Stands (loses_by n l) s
   -- one answered Here was so at the opening, or some actor has put or restored it, or is inside its birth or retake
-  pub here : (n : ℕ) → 0 < times n m.here
-      → (k.name n ≡ 1) ⊎ (Stands (puts n) s
+  pub here : (n : ℕ) → Among n m.here
+      → (k.name n ≡ word.here) ⊎ (Stands (puts n) s
       ⊎ (Stands (restores n) s ⊎ (Stands (in_birth n) s ⊎ Stands (in_retake n) s)))
   -- one whose lose was answered Nothing was Unborn, Lost or Dropped at the opening, or some actor has lost or dropped
   -- it
-  pub not_lost : (n : ℕ) → 0 < times n m.not_lost
-      → (k.name n ≡ 0) ⊎ ((4 ≤ k.name n) ⊎ ((k.name n ≡ 3) ⊎ (Stands (loses n) s ⊎ Stands (drops n) s)))
+  pub not_lost : (n : ℕ) → Among n m.not_lost
+      → (k.name n ≡ word.unborn) ⊎ (IsLost (k.name n) ⊎ ((k.name n ≡ word.dropped) ⊎ (Stands (loses n) s ⊎ Stands (drops n) s)))
   -- one whose discard was answered Nothing was Unborn or Dropped at the opening, or some actor has lost or dropped it,
   -- or is inside its lose or drop
-  pub not_dropped : (n : ℕ) → 0 < times n m.not_dropped
-      → (k.name n ≡ 0) ⊎ ((k.name n ≡ 3)
+  pub not_dropped : (n : ℕ) → Among n m.not_dropped
+      → (k.name n ≡ word.unborn) ⊎ ((k.name n ≡ word.dropped)
       ⊎ (Stands (loses n) s ⊎ (Stands (drops n) s ⊎ (Stands (in_lose n) s ⊎ Stands (in_drop n) s))))
   -- where a begin was answered false, all Mets together have more begins answered true than this one has
   pub refused : 0 < m.refused → m.begun < total begun_of s.views
@@ -160,8 +162,8 @@ pub record Causes (k : Opening) (s : State) (m : Met) : Type 0 where
 -- that has a pin on g a pin made on an open g
 pub record Caused (k : Opening) (s : State) : Type 0 where
   pub answers : (j : ℕ) (v : View) → IsActor s j v → (m : Met) → IsMetOf v m → Causes k s m
-  pub right : (j : ℕ) (v : View) → IsActor s j v → v.build.right ≡ 1 → 0 < v.own.begun
-  pub pin : (j : ℕ) (v : View) → IsActor s j v → (g : ℕ) → 0 < live g v → 0 < times g v.own.opened
+  pub right : (j : ℕ) (v : View) → IsActor s j v → HasRight v.build → 0 < v.own.begun
+  pub pin : (j : ℕ) (v : View) → IsActor s j v → (g : ℕ) → 0 < live g v → Among g v.own.opened
 
 -- the ten together
 pub record Kept (f : File) (k : Opening) (s : State) : Type 0 where

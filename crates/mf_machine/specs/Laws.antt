@@ -7,17 +7,21 @@ use Rattle.mf_machine.specs.declared.view.Met.{Met}
 use Rattle.mf_machine.specs.declared.view.Seen.{Seen}
 use Rattle.mf_machine.specs.declared.view.Step.{Step}
 use Rattle.mf_machine.specs.declared.view.View.{View}
-use Rattle.mf_machine.specs.Actors.{live, Free}
+use Rattle.mf_machine.specs.declared.answer.Slot.TheVariants.{Hold, Work}
+use Rattle.mf_machine.specs.Actors.{Among, LacksRight, IsFreeSlot, live, Free}
 use Rattle.mf_machine.specs.Counts.{times, losses, lines, foreign, total, all_begun, all_opened}
-use Rattle.mf_machine.specs.File.{File, Opening, State, Holds, HasCell}
+use Rattle.mf_machine.specs.File.{File, Opening, State, Holds, HasCell, name_word, removed}
 use Rattle.mf_machine.specs.Kept.{IsActor, IsClosed, IsMetOf, Caused, Kept}
-use Rattle.mf_machine.specs.File.Home.{empty}
-use Rattle.mf_machine.specs.Moves.{World, Move, name_word, word_of, read, Opens, May, after, Reached}
-use Rattle.mf_machine.specs.Moves as move
+use Rattle.mf_machine.specs.Moves.{Move, Deed, by, May, after, Reached}
 use Rattle.mf_machine.specs.Rest.{Rest}
-use Rattle.mf_machine.specs.Rows.{nothing_made, nothing_met, old_half, new_half, joined, spent_view}
 use Rattle.mf_machine.specs.Ruled.{Ruled}
+use Rattle.mf_machine.specs.Steps.{old_half, new_half, joined}
 use Rattle.mf_machine.specs.Sums.{publishings, closings, loses_by, begun_of, opened_of, lost_bit}
+use Rattle.mf_machine.specs.Words as word
+use Rattle.mf_machine.specs.Words.{number_word, right_word, pins_word, closed_bit, absent, IsLost}
+use Rattle.mf_machine.specs.Worlds.{World, word_of, read, Opens, nothing_made, nothing_met, spent_view}
+use Rattle.mf_machine.specs.File.Home.{empty}
+use Rattle.mf_machine.specs.Moves as move
 
 -- the law: the ten rules hold in every reached state, and so does the rule as sums, from which they follow
 abbrev pub Law : Type 0
@@ -25,8 +29,8 @@ Law = (f : File) (k : Opening) (w : World) → Reached f k w → Kept f k (read 
 
 -- a name of a pinned generation is Here with its cell, Taken or Lost, and never Unborn or Dropped
 abbrev pub Stays : File → State → ℕ → Type 0
-Stays f s n = ((s.name n ≡ 1) ⊎ ((s.name n ≡ 2) ⊎ (4 ≤ s.name n)))
-    × (s.name n ≢ 0) × (s.name n ≢ 3) × (s.name n ≡ 1 → HasCell f n (s.home n))
+Stays f s n = ((s.name n ≡ word.here) ⊎ ((s.name n ≡ word.taken) ⊎ IsLost (s.name n)))
+    × (s.name n ≢ word.unborn) × (s.name n ≢ word.dropped) × (s.name n ≡ word.here → HasCell f n (s.home n))
 
 abbrev pub PinnedStays : Type 0
 PinnedStays = (f : File) (k : Opening) (w : World) → Reached f k w → (j : ℕ) (v : View) → IsActor (read f w) j v
@@ -34,19 +38,19 @@ PinnedStays = (f : File) (k : Opening) (w : World) → Reached f k w → (j : �
 
 -- the last actor: it has the whole share again, and no pin, no right and no name Taken
 abbrev pub IsLast : State → ℕ → View → Type 0
-IsLast s j v = IsActor s j v × (v.share ≡ 2 ^ 30) × (v.hold ≡ 0) × (v.work ≡ 0) × (v.build.right ≡ 0) × Free v
+IsLast s j v = IsActor s j v × (v.share ≡ 2 ^ 30) × IsFreeSlot Hold v × IsFreeSlot Work v × LacksRight v.build × Free v
 
 -- what rests of a state without its actors
 abbrev pub resting : State → Opening
-resting s = record { number = s.number; closed = λ g. leb 9223372036854775808 (s.pins g); name = s.name; home = s.home }
+resting s = record { number = s.number; closed = λ g. leb closed_bit (s.pins g); name = s.name; home = s.home }
 
 -- *Rest* is what the rules say of a state with no pin, no right and no name Taken: with its first actor a resting file
 -- keeps the rules, and a state that keeps them, with no name Taken and nothing in the slots of names that aren't Here,
 -- rests
 pub record RestIsKept : Type 0 where
   pub begins : (f : File) (k : Opening) (w : World) → Rest f k → Opens f k w → Kept f k (read f w)
-  pub ends : (f : File) (k : Opening) (s : State) → Kept f k s → ((n : ℕ) → n < f.names → s.name n ≢ 2)
-      → ((n : ℕ) → n < f.names → s.name n ≢ 1 → s.home n ≡ empty) → Rest f (resting s)
+  pub ends : (f : File) (k : Opening) (s : State) → Kept f k s → ((n : ℕ) → n < f.names → s.name n ≢ word.taken)
+      → ((n : ℕ) → n < f.names → s.name n ≢ word.here → s.home n ≡ empty) → Rest f (resting s)
 
 -- what the first actor has seen and made, the second one has too
 pub record GoesOn (v u : View) : Type 0 where
@@ -67,32 +71,7 @@ abbrev pub OnlyGrows : Type 0
 OnlyGrows = (f : File) (k : Opening) (w : World) (m : Move) → Reached f k w → May f w m
     → (j : ℕ) (v : View) → IsActor (read f w) j v
     → ((u : View) × IsActor (read f (after f w m)) j u × GoesOn v u)
-    ⊎ ((i : ℕ) × (m ≡ move.join i j) × ((u : View) × IsActor (read f (after f w m)) i u × GoesOn v u))
-
--- the actor of a move; of a join it is the one that stays
-abbrev pub mover : Move → ℕ
-mover (move.look id) = id
-mover (move.pin id slot g) = id
-mover (move.unpin id slot g) = id
-mover (move.close id g) = id
-mover (move.begin id) = id
-mover (move.end id) = id
-mover (move.publish id next) = id
-mover (move.see id n) = id
-mover (move.take id n) = id
-mover (move.give id n) = id
-mover (move.birth id n) = id
-mover (move.born id n) = id
-mover (move.lose id n l) = id
-mover (move.lost id n l) = id
-mover (move.retake id n) = id
-mover (move.restored id n) = id
-mover (move.drop id n) = id
-mover (move.drop_again id n) = id
-mover (move.dropped id n) = id
-mover (move.exchange id h) = id
-mover (move.split id) = id
-mover (move.join id other) = id
+    ⊎ ((i : ℕ) × (m ≡ by i (move.join j)) × ((u : View) × IsActor (read f (after f w m)) i u × GoesOn v u))
 
 -- the note of a step on the word i: one step more, this word, and the value that stood there before the step
 abbrev pub Meets : World → ℕ → Step → Step → Type 0
@@ -105,37 +84,31 @@ CountsOne a b = (b.count ≡ a.count + 1) × (b.word ≡ a.word) × (b.met ≡ a
 -- what the actor of a move notes by it, before and after: each of the fourteen kinds of step counts once, and notes its
 -- word with the value met; so does the second try of a drop. The return of a birth, lose, retake or drop was counted
 -- with its turn, and so it notes nothing, and neither do an exchange, a split and a join
-abbrev pub Notes : File → World → Move → Step → Step → Type 0
-Notes f w (move.look id) a b = Meets w 0 a b
-Notes f w (move.pin id slot g) a b = Meets w (g + 2) a b
-Notes f w (move.unpin id slot g) a b = Meets w (g + 2) a b
-Notes f w (move.close id g) a b = Meets w (g + 2) a b
-Notes f w (move.begin id) a b = Meets w 1 a b
-Notes f w (move.end id) a b = Meets w 1 a b
-Notes f w (move.publish id next) a b = Meets w 0 a b
-Notes f w (move.see id n) a b = Meets w (name_word f n) a b
-Notes f w (move.take id n) a b = Meets w (name_word f n) a b
-Notes f w (move.give id n) a b = CountsOne a b
-Notes f w (move.birth id n) a b = Meets w (name_word f n) a b
-Notes f w (move.born id n) a b = b ≡ a
-Notes f w (move.lose id n l) a b = Meets w (name_word f n) a b
-Notes f w (move.lost id n l) a b = b ≡ a
-Notes f w (move.retake id n) a b = Meets w (name_word f n) a b
-Notes f w (move.restored id n) a b = b ≡ a
-Notes f w (move.drop id n) a b = Meets w (name_word f n) a b
-Notes f w (move.drop_again id n) a b = Meets w (name_word f n) a b
-Notes f w (move.dropped id n) a b = b ≡ a
-Notes f w (move.exchange id h) a b = b ≡ a
-Notes f w (move.split id) a b = b ≡ a
-Notes f w (move.join id other) a b = b ≡ a
+abbrev pub Notes : File → World → Deed → Step → Step → Type 0
+Notes f w move.look a b = Meets w number_word a b
+Notes f w (move.pin slot g) a b = Meets w (pins_word g) a b
+Notes f w (move.unpin slot g) a b = Meets w (pins_word g) a b
+Notes f w (move.close g) a b = Meets w (pins_word g) a b
+Notes f w move.begin a b = Meets w right_word a b
+Notes f w move.end a b = Meets w right_word a b
+Notes f w (move.publish next) a b = Meets w number_word a b
+Notes f w (move.see n) a b = Meets w (name_word f n) a b
+Notes f w (move.take n) a b = Meets w (name_word f n) a b
+Notes f w (move.give n) a b = CountsOne a b
+Notes f w (move.birth n) a b = Meets w (name_word f n) a b
+Notes f w (move.lose n l) a b = Meets w (name_word f n) a b
+Notes f w (move.retake n) a b = Meets w (name_word f n) a b
+Notes f w (move.drop n) a b = Meets w (name_word f n) a b
+Notes f w (move.drop_again n) a b = Meets w (name_word f n) a b
+Notes f w d a b = b ≡ a
 
 -- what an actor notes of its last step is what that step met: a move notes with its own actor just this, and with every
 -- other actor nothing
 pub record NotesTrue : Type 0 where
   pub own : (f : File) (w : World) (m : Move) → May f w m
-      → (v u : View) → IsActor (read f w) (mover m) v → IsActor (read f (after f w m)) (mover m) u
-      → Notes f w m v.step u.step
-  pub others : (f : File) (w : World) (m : Move) → May f w m → (j : ℕ) → j ≢ mover m
+      → (v u : View) → IsActor (read f w) m.who v → IsActor (read f (after f w m)) m.who u
+      → Notes f w m.does v.step u.step
+  pub others : (f : File) (w : World) (m : Move) → May f w m → (j : ℕ) → j ≢ m.who
       → (v u : View) → IsActor (read f w) j v → IsActor (read f (after f w m)) j u → 0 < u.share → u.step ≡ v.step
 
 -- h of each Met of an actor, added up
@@ -187,12 +160,12 @@ pub record BringsBack (f : File) (k : Opening) (s : State) (v : View) : Type 0 w
   pub number : ((s.number ≡ k.number) × ((m : ℕ) → times m v.made.numbers ≡ 0)) ⊎ (0 < times s.number v.made.numbers)
   pub greatest : (m : ℕ) → 0 < times m v.made.numbers → (k.number < m) × (m ≤ s.number)
   pub closed : (g : ℕ) → g < f.stages → IsClosed s g ↔ ((k.closed g ≡ true) ⊎ (0 < times g v.made.closings))
-  pub unborn : (n : ℕ) → n < f.names → (s.name n ≡ 0) ↔ ((k.name n ≡ 0) × (times n v.made.changes.put ≡ 0))
-  pub dropped : (n : ℕ) → n < f.names → (s.name n ≡ 3) ↔ ((k.name n ≡ 3) ⊎ (0 < times n v.made.changes.dropped))
-  pub lost : (n : ℕ) → n < f.names → s.name n ≢ 3
-      → (4 ≤ s.name n) ↔ (losses n v.made.changes.lost + lost_bit (k.name n) ≡ times n v.made.changes.restored + 1)
-  pub line : (n l : ℕ) → n < f.names → s.name n ≡ 4 + l → (k.name n ≡ 4 + l) ⊎ (0 < lines n l v.made.changes.lost)
-  pub here : (n : ℕ) → n < f.names → (s.name n ≡ 0) ⊎ ((s.name n ≡ 1) ⊎ ((s.name n ≡ 3) ⊎ (4 ≤ s.name n)))
+  pub unborn : (n : ℕ) → n < f.names → (s.name n ≡ word.unborn) ↔ ((k.name n ≡ word.unborn) × (times n v.made.changes.put ≡ 0))
+  pub dropped : (n : ℕ) → n < f.names → (s.name n ≡ word.dropped) ↔ ((k.name n ≡ word.dropped) ⊎ (0 < times n v.made.changes.dropped))
+  pub lost : (n : ℕ) → n < f.names → s.name n ≢ word.dropped
+      → IsLost (s.name n) ↔ (losses n v.made.changes.lost + lost_bit (k.name n) ≡ times n v.made.changes.restored + 1)
+  pub line : (n l : ℕ) → n < f.names → s.name n ≡ word.lost l → (k.name n ≡ word.lost l) ⊎ (0 < lines n l v.made.changes.lost)
+  pub here : (n : ℕ) → n < f.names → (s.name n ≡ word.unborn) ⊎ ((s.name n ≡ word.here) ⊎ ((s.name n ≡ word.dropped) ⊎ IsLost (s.name n)))
 
 -- the end: the last actor's Made accounts for the state, its Mets have their causes in it, it is at least what the
 -- actor has seen, and the state is at rest
@@ -219,12 +192,12 @@ pub record LeadsBack (f : File) (k : Opening) (s : State) (j : ℕ) (v : View) :
   pub already : (g : ℕ) (m : Met) → IsMetOf v m → 0 < times g m.already + times g m.missed
       → (k.closed g ≡ true) ⊎ Someone s (closings g)
   -- Lost(line): the opening, or a loss with that line
-  pub lost : (n l : ℕ) (m : Met) → IsMetOf v m → 0 < lines n l m.lost → (k.name n ≡ 4 + l) ⊎ Someone s (loses_by n l)
+  pub lost : (n l : ℕ) (m : Met) → IsMetOf v m → 0 < lines n l m.lost → (k.name n ≡ word.lost l) ⊎ Someone s (loses_by n l)
   -- Absent: the opening
-  pub absent : (m : Met) → IsMetOf v m → 0 < times 0 m.numbers → k.number ≡ 0
+  pub absent : (m : Met) → IsMetOf v m → Among absent m.numbers → k.number ≡ absent
   -- Removed: the opening, or a publishing of q + 1
-  pub removed : (m : Met) → IsMetOf v m → 0 < times (f.stages + 1) m.numbers
-      → (k.number ≡ f.stages + 1) ⊎ Someone s (publishings (f.stages + 1))
+  pub removed : (m : Met) → IsMetOf v m → Among (removed f) m.numbers
+      → (k.number ≡ removed f) ⊎ Someone s (publishings (removed f))
 
 abbrev pub CausesLeadBack : Type 0
 CausesLeadBack = (f : File) (k : Opening) (w : World) → Reached f k w → (j : ℕ) (v : View) → IsActor (read f w) j v

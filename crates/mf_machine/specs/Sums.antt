@@ -1,9 +1,11 @@
 -- What each actor adds to the tally of a file, and the tally.
-use Rattle.std.specs.Prelude.{ℕ, ◌+◌, leb, List}
+use Rattle.std.specs.Prelude.{ℕ, ◌+◌, List}
 use Rattle.mf_machine.specs.declared.view.View.{View}
 use Rattle.mf_machine.specs.Actors.{has, live}
 use Rattle.mf_machine.specs.Counts.{bit, truth, times, losses, lines, total, all_begun, all_opened}
 use Rattle.mf_machine.specs.File.{Opening}
+use Rattle.mf_machine.specs.Words as word
+use Rattle.mf_machine.specs.Words.{is_lost}
 
 abbrev pub right_of : View → ℕ
 right_of v = v.build.right
@@ -74,9 +76,9 @@ sinks n v = loses n v + drops n v
 abbrev pub hides : ℕ → View → ℕ
 hides n v = loses n v + drops n v + in_lose n v + in_drop n v
 
--- the words of a name: 0 Unborn, 1 Here, 2 Taken, 3 Dropped, 4 + line for Lost
+-- 1 for the word of a lost name
 abbrev pub lost_bit : ℕ → ℕ
-lost_bit w = truth (leb 4 w)
+lost_bit w = truth (is_lost w)
 
 -- the tally: sums over the opening and all actors, of which none ever falls
 pub record Tally : Type 0 where
@@ -99,10 +101,10 @@ abbrev pub tally : Opening → List View → Tally
 tally k vs = record {
   heard = λ m. bit k.number m + total (publishings m) vs;
   shuts = λ g. truth (k.closed g) + total (closings g) vs;
-  lost_by = λ n l. bit (k.name n) (4 + l) + total (loses_by n l) vs;
-  raised = λ n. bit (k.name n) 1 + total (raises n) vs;
-  sunk = λ n. bit (k.name n) 0 + bit (k.name n) 3 + lost_bit (k.name n) + total (sinks n) vs;
-  hidden = λ n. bit (k.name n) 0 + bit (k.name n) 3 + total (hides n) vs;
+  lost_by = λ n l. bit (k.name n) (word.lost l) + total (loses_by n l) vs;
+  raised = λ n. bit (k.name n) word.here + total (raises n) vs;
+  sunk = λ n. bit (k.name n) word.unborn + bit (k.name n) word.dropped + lost_bit (k.name n) + total (sinks n) vs;
+  hidden = λ n. bit (k.name n) word.unborn + bit (k.name n) word.dropped + total (hides n) vs;
   begun = total begun_of vs;
   opened = λ g. total (opened_of g) vs;
 }

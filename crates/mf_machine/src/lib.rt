@@ -3,11 +3,13 @@
 //! proved against.
 #![tactic(auto)]
 
+mod answer;
 mod law;
 mod view;
 
+pub use answer::{Closed, LoseStep, Slot, State};
 pub use law::{
     account_adds_up, answers_tell, causes_lead_back, last_brings_back, no_rule_is_empty,
     notes_are_true, only_grows, pinned_stays, rest_is_kept, rules_are_kept,
 };
-pub use view::{Build, Changes, Inside, Loss, Made, Met, Refusal, Seen, Slot, Step, View};
+pub use view::{Build, Changes, Inside, Loss, Made, Met, Refusal, Seen, Step, View};

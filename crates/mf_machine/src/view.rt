@@ -106,12 +106,6 @@ pub struct Step {
     pub met: u64,
 }
 
-/// A place for a pin.
-pub enum Slot {
-    Hold,
-    Work,
-}
-
 /// One actor.
 pub struct View {
     /// Its part of 2^30. It is 0 once another actor took it in, and bounds its pins on closed generations.

@@ -1,0 +1,82 @@
+-- The numbers that stand in the words of a file and in a view.
+use Rattle.std.specs.Prelude.{◌≡◌, ℕ, ◌+◌, ◌-◌, ◌<◌, ◌≤◌, ◌==◌, ltb, leb, Bool}
+
+-- the words in their order: the published number, the right, the pins of each of the q generations, the names
+abbrev pub number_word : ℕ
+number_word = 0
+
+abbrev pub right_word : ℕ
+right_word = 1
+
+abbrev pub pins_word : ℕ → ℕ
+pins_word g = g + 2
+
+abbrev pub nth_name_word : (q n : ℕ) → ℕ
+nth_name_word q n = q + 2 + n
+
+-- the word of a name: what it is
+abbrev pub unborn : ℕ
+unborn = 0
+
+abbrev pub here : ℕ
+here = 1
+
+abbrev pub taken : ℕ
+taken = 2
+
+abbrev pub dropped : ℕ
+dropped = 3
+
+-- lost, by this lose line
+abbrev pub lost : ℕ → ℕ
+lost line = 4 + line
+
+abbrev pub line_of : ℕ → ℕ
+line_of x = x - lost 0
+
+abbrev pub IsLost : ℕ → Type 0
+IsLost x = lost 0 ≤ x
+
+abbrev pub is_lost : ℕ → Bool
+is_lost x = leb (lost 0) x
+
+abbrev pub is_here : ℕ → Bool
+is_here x = x == here
+
+-- the word of the right: it is free, or some actor's
+abbrev pub free : ℕ
+free = 0
+
+abbrev pub held : ℕ
+held = 1
+
+-- the word of a generation's pins: how many there are, and beside them this bit once it is closed
+abbrev pub closed_bit : ℕ
+closed_bit = 9223372036854775808
+
+abbrev pub IsOpenWord : ℕ → Type 0
+IsOpenWord x = x < closed_bit
+
+abbrev pub is_open : ℕ → Bool
+is_open x = ltb x closed_bit
+
+-- the published number: that of a file that isn't created, of generation g, and of a file of q generations that is
+-- removed
+abbrev pub absent : ℕ
+absent = 0
+
+abbrev pub number_of : ℕ → ℕ
+number_of g = g + 1
+
+abbrev pub removed_of : ℕ → ℕ
+removed_of q = q + 1
+
+-- a place of a view that may be empty: 0, or 1 more than what stands there
+abbrev pub vacant : ℕ
+vacant = 0
+
+abbrev pub filled : ℕ → ℕ
+filled n = n + 1
+
+abbrev pub Fills : (place n : ℕ) → Type 0
+Fills place n = place ≡ filled n

@@ -111,7 +111,8 @@ pub record Accounted (f : File) (k : Opening) (s : State) : Type 0 where
   pub closed_once : (g : ℕ) → g < f.stages → Stands (closings g) s
       → (total (closings g) s.views ≡ 1) × (k.closed g ≢ true)
   pub put_once : (n : ℕ) → n < f.names → Stands (puts n) s → (total (puts n) s.views ≡ 1) × (k.name n ≡ word.unborn)
-  pub dropped_once : (n : ℕ) → n < f.names → Stands (drops n) s → (total (drops n) s.views ≡ 1) × (k.name n ≢ word.dropped)
+  pub dropped_once : (n : ℕ) → n < f.names → Stands (drops n) s
+      → (total (drops n) s.views ≡ 1) × (k.name n ≢ word.dropped)
   -- a generation is closed exactly where it was so or some actor has closed it
   pub closed : (g : ℕ) → g < f.stages → IsClosed s g ↔ ((k.closed g ≡ true) ⊎ Stands (closings g) s)
   -- a name is Unborn, or Taken in a birth, exactly where it was Unborn and no actor has put it
@@ -146,7 +147,8 @@ pub record Causes (k : Opening) (s : State) (m : Met) : Type 0 where
   -- one whose lose was answered Nothing was Unborn, Lost or Dropped at the opening, or some actor has lost or dropped
   -- it
   pub not_lost : (n : ℕ) → Among n m.not_lost
-      → (k.name n ≡ word.unborn) ⊎ (IsLost (k.name n) ⊎ ((k.name n ≡ word.dropped) ⊎ (Stands (loses n) s ⊎ Stands (drops n) s)))
+      → (k.name n ≡ word.unborn) ⊎ (IsLost (k.name n)
+      ⊎ ((k.name n ≡ word.dropped) ⊎ (Stands (loses n) s ⊎ Stands (drops n) s)))
   -- one whose discard was answered Nothing was Unborn or Dropped at the opening, or some actor has lost or dropped it,
   -- or is inside its lose or drop
   pub not_dropped : (n : ℕ) → Among n m.not_dropped

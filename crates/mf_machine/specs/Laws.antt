@@ -160,12 +160,16 @@ pub record BringsBack (f : File) (k : Opening) (s : State) (v : View) : Type 0 w
   pub number : ((s.number ≡ k.number) × ((m : ℕ) → times m v.made.numbers ≡ 0)) ⊎ (0 < times s.number v.made.numbers)
   pub greatest : (m : ℕ) → 0 < times m v.made.numbers → (k.number < m) × (m ≤ s.number)
   pub closed : (g : ℕ) → g < f.stages → IsClosed s g ↔ ((k.closed g ≡ true) ⊎ (0 < times g v.made.closings))
-  pub unborn : (n : ℕ) → n < f.names → (s.name n ≡ word.unborn) ↔ ((k.name n ≡ word.unborn) × (times n v.made.changes.put ≡ 0))
-  pub dropped : (n : ℕ) → n < f.names → (s.name n ≡ word.dropped) ↔ ((k.name n ≡ word.dropped) ⊎ (0 < times n v.made.changes.dropped))
+  pub unborn : (n : ℕ) → n < f.names
+      → (s.name n ≡ word.unborn) ↔ ((k.name n ≡ word.unborn) × (times n v.made.changes.put ≡ 0))
+  pub dropped : (n : ℕ) → n < f.names
+      → (s.name n ≡ word.dropped) ↔ ((k.name n ≡ word.dropped) ⊎ (0 < times n v.made.changes.dropped))
   pub lost : (n : ℕ) → n < f.names → s.name n ≢ word.dropped
       → IsLost (s.name n) ↔ (losses n v.made.changes.lost + lost_bit (k.name n) ≡ times n v.made.changes.restored + 1)
-  pub line : (n l : ℕ) → n < f.names → s.name n ≡ word.lost l → (k.name n ≡ word.lost l) ⊎ (0 < lines n l v.made.changes.lost)
-  pub here : (n : ℕ) → n < f.names → (s.name n ≡ word.unborn) ⊎ ((s.name n ≡ word.here) ⊎ ((s.name n ≡ word.dropped) ⊎ IsLost (s.name n)))
+  pub line : (n l : ℕ) → n < f.names → s.name n ≡ word.lost l
+      → (k.name n ≡ word.lost l) ⊎ (0 < lines n l v.made.changes.lost)
+  pub here : (n : ℕ) → n < f.names
+      → (s.name n ≡ word.unborn) ⊎ ((s.name n ≡ word.here) ⊎ ((s.name n ≡ word.dropped) ⊎ IsLost (s.name n)))
 
 -- the end: the last actor's Made accounts for the state, its Mets have their causes in it, it is at least what the
 -- actor has seen, and the state is at rest
@@ -192,7 +196,8 @@ pub record LeadsBack (f : File) (k : Opening) (s : State) (j : ℕ) (v : View) :
   pub already : (g : ℕ) (m : Met) → IsMetOf v m → 0 < times g m.already + times g m.missed
       → (k.closed g ≡ true) ⊎ Someone s (closings g)
   -- Lost(line): the opening, or a loss with that line
-  pub lost : (n l : ℕ) (m : Met) → IsMetOf v m → 0 < lines n l m.lost → (k.name n ≡ word.lost l) ⊎ Someone s (loses_by n l)
+  pub lost : (n l : ℕ) (m : Met) → IsMetOf v m → 0 < lines n l m.lost
+      → (k.name n ≡ word.lost l) ⊎ Someone s (loses_by n l)
   -- Absent: the opening
   pub absent : (m : Met) → IsMetOf v m → Among absent m.numbers → k.number ≡ absent
   -- Removed: the opening, or a publishing of q + 1

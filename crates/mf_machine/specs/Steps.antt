@@ -391,8 +391,8 @@ drop_again_view true n v = dropped_lost n v
 drop_again_view false n v = not_dropped n v
 
 abbrev pub drop_again_row : File → (tried n : ℕ) → Row
-drop_again_row f tried n =
-    word_row (name_word f n) (λ x. cond (x == tried) word.dropped x) (λ x. drop_again_view (drop_again_answer tried x) n)
+drop_again_row f tried n = word_row (name_word f n) (λ x. cond (x == tried) word.dropped x)
+    (λ x. drop_again_view (drop_again_answer tried x) n)
 
 abbrev pub MayBeDropped : ℕ → View → Type 0
 MayBeDropped n v = Active v × IsDropping v.inside n

@@ -160,8 +160,8 @@ pub record Row : Type 0 where
   pub view : ℕ → View → View
   pub note : Note
 
--- a row that leaves the slots; one that takes the slot of a name which is Here; one that takes it; and one that gives it
--- back, with the name's new word
+-- a row that leaves the slots; one that takes the slot of a name which is Here; one that takes it; and one that gives
+-- it back, with the name's new word
 abbrev pub word_row : ℕ → (ℕ → ℕ) → (ℕ → View → View) → Row
 word_row i becomes view = record { word = i; becomes = becomes; slot = λ x. stays; view = view; note = meets }
 

@@ -122,11 +122,11 @@ all_kept width p count next places kept whole le so_far =
     ∙ so_far
 
 -- the matrix that the code makes has the entries of the erasure
-pub same_entries : (g : Grid) (e : ℕ) (cells points lost kept read : List ℕ) → g ≡ record { rows = e; columns = e; cells = cells } → length lost ≡ e → length read ≡ e → read ≡ kept
+pub same_entries : (g : Grid) (e : ℕ) (cells points lost kept read : List ℕ) → g ≡ record { rows = e; columns = e; entries = cells } → length lost ≡ e → length read ≡ e → read ≡ kept
     → ((i j : ℕ) → i < length read → j < length lost → get_or cells (i * length lost + j) 0 ≡ entry points lost read i j)
     → (i j : ℕ) → i < length lost → j < length lost → cell g i j ≡ entry points lost kept i j
 same_entries g e cells points lost kept read made lost_len read_len same at i j li lj =
-    ap (λ (m : Grid). get_or m.cells (i * m.columns + j) 0) made
+    ap (λ (m : Grid). get_or m.entries (i * m.columns + j) 0) made
     ∙ ap (λ (n : ℕ). get_or cells (i * n + j) 0) (sym lost_len)
     ∙ at i j (omega arith) lj
     ∙ ap (λ (l : List ℕ). entry points lost l i j) same

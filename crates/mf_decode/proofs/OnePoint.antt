@@ -6,7 +6,8 @@ use Rattle.mf_code.specs.Decodable.{IsDecodable}
 use Rattle.mf_field.proofs.FieldLaws.{one-times}
 use Rattle.mf_field.proofs.Powers.{power_of_one}
 use Rattle.mf_field.proofs.SumLaws.{sum_below-one}
-use Rattle.mf_erasure.specs.Erasure.{entry, others_from, IsErasure, OnlyZero}
+use Rattle.mf_matrix.specs.Tables.{OnlyZero}
+use Rattle.mf_erasure.specs.Erasure.{entry, others_from, IsErasure}
 use Rattle.mf_erasure.proofs.Bridge.{decodable_from_only_zero}
 use Rattle.mf_erasure.proofs.Places.{erasure_of_set}
 use Rattle.mf_decode.proofs.Planned.{few_erased}

@@ -17,7 +17,8 @@ use Rattle.mf_code.specs.Decodable.{word, IsData, AgreeOutside, IsDecodableAt}
 use Rattle.mf_code.proofs.Sums.{sum_below-same, sum_below-zero, sum_below_xor}
 use Rattle.mf_code.proofs.Lists.{length-list_of, list_of_at, list_of_from}
 use Rattle.mf_field.proofs.FieldLaws.{times_add, times-zero}
-use Rattle.mf_erasure.specs.Erasure.{entry, OnlyZero, Splits}
+use Rattle.mf_matrix.specs.Tables.{OnlyZero}
+use Rattle.mf_erasure.specs.Erasure.{entry, Splits}
 use Rattle.mf_erasure.proofs.Spread.{at_place, at_place-zero, spread, sum_spread, spread-other, spread-lost, spread-lt}
 
 -- an element by its place

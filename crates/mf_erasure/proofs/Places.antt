@@ -6,7 +6,8 @@ use Rattle.std.proofs.lemmas.List.Kept.{AllPairs-from_increasing}
 use Rattle.std.proofs.lemmas.List.{get_or_default, get_or_append_left, get_or-append_right, get_or-map, length-map}
 use Rattle.std.proofs.Math.ListN.{length-append}
 use Rattle.mf_code.specs.Decodable.{IsPlaceSet, IsDecodable}
-use Rattle.mf_erasure.specs.Erasure.{entry, OnlyZero, IsPlaces, IsErasure, IsComplement, Splits, others_from, places_of}
+use Rattle.mf_matrix.specs.Tables.{OnlyZero}
+use Rattle.mf_erasure.specs.Erasure.{entry, IsPlaces, IsErasure, IsComplement, Splits, others_from, places_of}
 use Rattle.mf_erasure.proofs.Bridge.{contains_at, at_contains, only_zero_from_decodable}
 use Rattle.mf_erasure.proofs.Others.{Rises, rises_none, rises_cons, rises_tail, Has, Shares, others_share}
 

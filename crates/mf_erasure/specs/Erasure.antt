@@ -2,19 +2,14 @@
 use Rattle.std.specs.Prelude.{ℕ, zero, suc, ◌≡◌, ◌⊎◌, ◌+◌, ◌<◌, ◌==◌, if◌then◌else◌, List, [], ◌∷◌, ◌++◌, length, map}
 use Rattle.std.specs.Prelude.{slice_index, All, Contains}
 use Rattle.std.specs.List.Sorted.{IsStrictlyIncreasing}
-use Rattle.mf_code.specs.Field.{times, power}
-use Rattle.mf_code.specs.Sums.{sum_below}
+use Rattle.mf_code.specs.Field.{power}
 use Rattle.mf_code.specs.Decodable.{IsPlaceSet, IsDecodableAt}
+use Rattle.mf_matrix.specs.Tables.{OnlyZero}
 
 -- The matrix of an erasure: a row for each parity that is kept, a column for each data place that is lost, and as entry
 -- the parity's point to the power of the place.
 abbrev pub entry : List ℕ → List ℕ → List ℕ → ℕ → ℕ → ℕ
 entry points lost kept i j = power (slice_index points (slice_index kept i)) (slice_index lost j)
-
--- The matrix of n rows and columns sends only the zero list to zero.
-abbrev pub OnlyZero : ℕ → (ℕ → ℕ → ℕ) → Type 0
-OnlyZero n m = (x : ℕ → ℕ) → ((j : ℕ) → x j < 256)
-    → ((i : ℕ) → i < n → sum_below n (λ j. times (m i j) (x j)) ≡ 0) → (j : ℕ) → j < n → x j ≡ 0
 
 -- A list of places, in ascending order.
 pub record IsPlaces (count : ℕ) (places : List ℕ) : Type 0 where

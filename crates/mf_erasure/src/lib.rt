@@ -1,10 +1,34 @@
-//! The bridge between lost places and matrices: which places a stripe can lose, said by words that agree
-//! outside of them and by the matrix that a decoder inverts.
-//!
-//! The functions are laws: their contracts are the facts, and they do nothing.
+//! The bridge between lost places and matrices: the matrix of an erasure, which a decoder inverts, and which
+//! places a stripe can lose, said by codewords that agree outside of them and by this matrix.
 #![tactic(auto)]
 
-ghost use Rattle.mf_erasure.specs.Erasure.{DecodableByMatrix, SetsAreErasures};
+ghost use Rattle.std.specs.Prelude.{◌≡◌, ℕ, ◌<◌, ◌≤◌, length, slice_index};
+ghost use Rattle.mf_matrix.specs.Matrix.{IsGrid, entry as entry_of};
+ghost use Rattle.mf_erasure.specs.Erasure.{entry, DecodableByMatrix, SetsAreErasures};
+
+use mf_field::pow;
+use mf_matrix::Matrix;
+
+/// The matrix of an erasure: a row for each kept parity, a column for each lost data place, and as entry the
+/// parity's point to the power of the place. `kept` has the parities' numbers, each with a point. No more than
+/// eight are lost or kept.
+pub fn erasure_matrix(points: &[u8], lost: &[u32], kept: &[u32]) -> Matrix
+    requires few_rows { length kept.now ≤ 8 }
+    requires few_columns { length lost.now ≤ 8 }
+    requires known { (i : ℕ) → i < length kept.now → slice_index kept.now i < length points.now }
+    ensures size { (result.rows ≡ length kept.now) × (result.columns ≡ length lost.now) }
+    ensures entries { (i j : ℕ) → i < length kept.now → j < length lost.now
+        → entry_of result i j ≡ entry points.now lost.now kept.now i j }
+    ensures kept { IsGrid result }
+{
+    let mut matrix = Matrix::zero(kept.len() as u32, lost.len() as u32);
+    for i in 0..kept.len() {
+        for j in 0..lost.len() {
+            matrix.put(i as u32, j as u32, pow(points[kept[i] as usize], lost[j]));
+        }
+    }
+    matrix
+}
 
 /// A set of places is decodable just where the matrix of its erasure sends only the zero list to zero.
 pub fn decodable_by_matrix()

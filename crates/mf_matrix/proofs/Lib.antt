@@ -1,3 +1,4 @@
+pub mod Grids
 pub mod Linear
 pub mod Steps
 pub mod Sums

@@ -4,7 +4,7 @@ use Rattle.std.proofs.lemmas.Bool.{cases_lt}
 use Rattle.std.proofs.lemmas.List.{get_or_past}
 use Rattle.mf_code.specs.Field.{times}
 use Rattle.mf_code.proofs.Sums.{sum_below-same}
-use Rattle.mf_matrix.specs.Tables.{IsTable, IsBytes, IsInverse, HasInverse, GivesIdentity, SendsToZero, DependsOnEarlier, IsKernel}
+use Rattle.mf_matrix.specs.Tables.{IsTable, IsInverse, HasInverse, GivesIdentity, SendsToZero, OnlyZero, DependsOnEarlier, IsKernel}
 use Rattle.mf_matrix.proofs.Inverses.{zero_from_inverse}
 
 -- the same entry in each row and column below n
@@ -62,17 +62,13 @@ is_kernel-same n a a' x sa k =
       begins_with_one = k.begins_with_one;
     }
 
--- the table sends only zeros to zero
-abbrev pub SendsOnlyZero : ℕ → (ℕ → ℕ → ℕ) → Type 0
-SendsOnlyZero n a = (x : ℕ → ℕ) → IsBytes x → SendsToZero n a x → (j : ℕ) → j < n → x j ≡ 0
-
--- a table with an inverse does
-pub only_zero-from_inverse : (n : ℕ) (a a' b : ℕ → ℕ → ℕ) → SameBelow n a a' → IsTable a → IsInverse n a b → SendsOnlyZero n a'
+-- a table with an inverse sends only zeros to zero
+pub only_zero-from_inverse : (n : ℕ) (a a' b : ℕ → ℕ → ℕ) → SameBelow n a a' → IsTable a → IsInverse n a b → OnlyZero n a'
 only_zero-from_inverse n a a' b sa bytes inverse x lx zeros =
     zero_from_inverse n a b x bytes inverse.bytes lx inverse.on_the_left (sends-same n a' a x (same_back n a a' sa) zeros)
 
 -- one with a kernel list doesn't
-pub no_kernel : (n : ℕ) (a : ℕ → ℕ → ℕ) (x : List ℕ) → SendsOnlyZero n a → IsKernel n a x → ⊥
+pub no_kernel : (n : ℕ) (a : ℕ → ℕ → ℕ) (x : List ℕ) → OnlyZero n a → IsKernel n a x → ⊥
 no_kernel n a x only k =
     let (j, one, zeros) = k.begins_with_one in
     elim (cases_lt j n) [

@@ -1,19 +1,19 @@
 -- What a matrix shows.
 use Rattle.std.specs.Prelude.{ℕ, ◌≡◌, ◌+◌, ◌*◌, ◌<◌, ◌≤◌, List, length, slice_index}
 
--- A matrix, its cells row by row.
+-- A matrix, its entries row by row.
 pub record Grid : Type 0 where
   pub rows : ℕ
   pub columns : ℕ
-  pub cells : List ℕ
+  pub entries : List ℕ
 
 -- At most eight rows and eight columns of bytes.
 pub record IsGrid (m : Grid) : Type 0 where
   pub few_rows : m.rows ≤ 8
   pub few_columns : m.columns ≤ 8
-  pub filled : length m.cells ≡ m.rows * m.columns
-  pub bytes : (k : ℕ) → slice_index m.cells k < 256
+  pub filled : length m.entries ≡ m.rows * m.columns
+  pub bytes : (k : ℕ) → slice_index m.entries k < 256
 
--- The cell in row i and column j.
+-- The entry in row i and column j.
 abbrev pub entry : Grid → ℕ → ℕ → ℕ
-entry m i j = slice_index m.cells (i * m.columns + j)
+entry m i j = slice_index m.entries (i * m.columns + j)

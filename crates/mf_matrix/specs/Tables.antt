@@ -37,6 +37,10 @@ HasInverse n a = (b : ℕ → ℕ → ℕ) × IsInverse n a b
 abbrev pub SendsToZero : ℕ → (ℕ → ℕ → ℕ) → (ℕ → ℕ) → Type 0
 SendsToZero n a x = (i : ℕ) → i < n → sum_below n (λ j. times (a i j) (x j)) ≡ 0
 
+-- a, of n rows and columns, sends only the zero list to zero.
+abbrev pub OnlyZero : ℕ → (ℕ → ℕ → ℕ) → Type 0
+OnlyZero n a = (x : ℕ → ℕ) → IsBytes x → SendsToZero n a x → (j : ℕ) → j < n → x j ≡ 0
+
 -- Column c depends on the columns before it: it is a sum of multiples of them.
 abbrev pub DependsOnEarlier : ℕ → (ℕ → ℕ → ℕ) → ℕ → Type 0
 DependsOnEarlier n a c = (w : ℕ → ℕ) × IsBytes w × ((i : ℕ) → i < n → a i c ≡ sum_below c (λ j. times (a i j) (w j)))

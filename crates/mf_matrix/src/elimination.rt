@@ -7,7 +7,7 @@ ghost use Rattle.std.specs.Bool.{OnTrue, OnFalse};
 ghost use Rattle.mf_code.specs.Field.{times};
 ghost use Rattle.mf_code.specs.Rows.{list_of};
 ghost use Rattle.mf_matrix.specs.Tables.{IsTable};
-ghost use Rattle.mf_matrix.specs.Matrix.{entry};
+ghost use Rattle.mf_matrix.specs.Matrix.{IsGrid, entry};
 ghost use Rattle.mf_matrix.specs.Elimination.{coefficient, SameSolutions, IsSolvedBelow, AddsTimes};
 ghost use Rattle.mf_matrix.specs.Elimination.{Scales, IsSystemOf, IsStuckAt, IsLeading, shown_at};
 
@@ -231,30 +231,19 @@ pub fn kernel_of(
     }
 }
 
-/// Appends the equation's coefficients of y.
-fn push_right(cells: &mut Vec<u8>, equation: &Equation, size: usize) -> Result<(), AllocError>
+/// The inverse, which the solved system has on its right side.
+pub fn right_side(equations: &[Equation; 8], size: u32) -> Matrix
     requires { size ≤ 8 }
-    ensures { OnOk result (cells.new.items ≡ cells.old.items
-        ++ list_of size (λ b. slice_index equation.now (size + b))) }
+    ensures size { (result.rows ≡ size) × (result.columns ≡ size) }
+    ensures entries { (i j : ℕ) → i < size → j < size
+        → entry result i j ≡ coefficient equations.now i (size + j) }
+    ensures kept { IsGrid result }
 {
-    cells.extend_from_slice(&equation[size..size + size])?;
-    Ok(())
-}
-
-/// The cells of the inverse, which the solved system has on its right side.
-pub fn inverse_cells(
-    alloc: Global,
-    equations: &[Equation; 8],
-    size: usize,
-) -> Result<Vec<u8>, AllocError>
-    requires { size ≤ 8 }
-    ensures len { IfOk result (λ cells. length cells.items ≡ size * size) }
-    ensures cells { IfOk result (λ cells. (i j : ℕ) → i < size → j < size
-        → slice_index cells.items (i * size + j) ≡ coefficient equations.now i (size + j)) }
-{
-    let mut cells = Vec::with_capacity(alloc, size * size)?;
+    let mut matrix = Matrix::zero(size, size);
     for i in 0..size {
-        push_right(&mut cells, &equations[i], size)?;
+        for j in 0..size {
+            matrix.put(i, j, equations[i as usize][(size + j) as usize]);
+        }
     }
-    Ok(cells)
+    matrix
 }

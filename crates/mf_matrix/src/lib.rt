@@ -2,34 +2,43 @@
 #![tactic(auto)]
 
 ghost use Rattle.std.specs.Prelude.{◌≡◌, ℕ, ◌+◌, ◌*◌, ◌<◌, ◌≤◌, ⊤, length, slice_index};
-ghost use Rattle.std.specs.Prelude.{IfOk, IfErr};
+ghost use Rattle.std.specs.Prelude.{IfOk, IfErr, replicate, set};
 ghost use Rattle.mf_matrix.specs.Tables.{IsInverse};
 ghost use Rattle.mf_matrix.specs.Matrix.{IsGrid, entry};
 ghost use Rattle.mf_matrix.specs.NoInverses.{IsNoInverse};
 
 mod elimination;
 
-use elimination::{equations_of, inverse_cells, kernel_of, solve_for};
+use elimination::{equations_of, kernel_of, right_side, solve_for};
 use std::alloc::{AllocError, Global};
 use std::marker::Model;
 
-/// A matrix of bytes with at most eight rows and eight columns.
+/// A matrix of bytes with at most eight rows and eight columns. It takes no memory.
 #[derive(Debug, Drop)]
 pub struct Matrix {
     rows: u32,
     columns: u32,
-    cells: Vec<u8>,
+    // The entries row by row, and room behind them.
+    room: [u8; 64],
 }
 
 impl Model for Matrix {
+    ghost use Rattle.std.specs.Prelude.{◌*◌, take};
     ghost use Rattle.mf_matrix.specs.Matrix.{Grid, IsGrid};
 
     ghost Value = { Grid };
 
-    ghost view = { λ m. record { rows = m.rows; columns = m.columns; cells = m.cells.items } };
+    ghost view = { λ m. record {
+      rows = m.rows;
+      columns = m.columns;
+      entries = take (m.rows * m.columns) m.room;
+    } };
 
-    ghost invariant = { λ m.
-        IsGrid (record { rows = m.rows; columns = m.columns; cells = m.cells.items }) };
+    ghost invariant = { λ m. IsGrid (record {
+      rows = m.rows;
+      columns = m.columns;
+      entries = take (m.rows * m.columns) m.room;
+    }) };
 }
 
 /// The kernel list of a matrix that has no inverse: the matrix sends it to zero, it is zero after the
@@ -66,29 +75,72 @@ pub enum NoInverse {
 }
 
 impl Matrix {
-    /// The matrix of these cells, row by row.
-    pub fn new(rows: u32, columns: u32, cells: Vec<u8>) -> Matrix
+    /// The matrix of these entries, row by row.
+    pub fn new(rows: u32, columns: u32, entries: Vec<u8>) -> Matrix
         requires few_rows { rows ≤ 8 }
         requires few_columns { columns ≤ 8 }
-        requires filled { length cells.items ≡ rows * columns }
-        ensures made { result ≡ record { rows = rows; columns = columns; cells = cells.items } }
+        requires filled { length entries.items ≡ rows * columns }
+        ensures made { result ≡ record { rows = rows; columns = columns; entries = entries.items } }
         ensures kept { IsGrid result }
     {
+        let mut room = zeros();
+        room[..entries.len()].copy_from_slice(&entries);
         Matrix {
             rows,
             columns,
-            cells,
+            room,
         }
     }
 
-    /// The cell in this row and column.
+    /// The matrix of zeros.
+    pub fn zero(rows: u32, columns: u32) -> Matrix
+        requires few_rows { rows ≤ 8 }
+        requires few_columns { columns ≤ 8 }
+        ensures made { result ≡ record {
+          rows = rows;
+          columns = columns;
+          entries = replicate (rows * columns) 0;
+        } }
+        ensures kept { IsGrid result }
+    {
+        let room = zeros();
+        Matrix {
+            rows,
+            columns,
+            room,
+        }
+    }
+
+    /// The entry in this row and column.
     pub fn at(&self, row: u32, column: u32) -> u8
         requires row_in { row < self.now.rows }
         requires column_in { column < self.now.columns }
         ensures { result ≡ entry self.now row column }
     {
-        self.cells[(row * self.columns + column) as usize]
+        self.room[(row * self.columns + column) as usize]
     }
+
+    /// Puts another entry into this row and column.
+    pub fn put(&mut self, row: u32, column: u32, value: u8)
+        requires row_in { row < self.old.rows }
+        requires column_in { column < self.old.columns }
+        ensures changed { self.new ≡ record {
+          rows = self.old.rows;
+          columns = self.old.columns;
+          entries = set self.old.entries (row * self.old.columns + column) value;
+        } }
+        ensures kept { IsGrid self.new }
+    {
+        let place = row * self.columns + column;
+        self.room[place as usize] = value;
+    }
+}
+
+// Room for the entries of a matrix.
+fn zeros() -> [u8; 64]
+    ensures { result ≡ replicate 64 0 }
+{
+    [0; 64]
 }
 
 /// The inverse of a square matrix, or the one kernel list of a matrix that has none. `Memory` says
@@ -111,10 +163,7 @@ pub fn invert(alloc: Global, matrix: &Matrix) -> Result<Matrix, NoInverse>
             };
         }
     }
-    match inverse_cells(alloc, &equations, size) {
-        Ok(cells) => Ok(Matrix::new(matrix.columns, matrix.columns, cells)),
-        Err(_) => Err(NoInverse::Memory),
-    }
+    Ok(right_side(&equations, matrix.columns))
 }
 
 #[cfg(test)]

@@ -1,5 +1,5 @@
 use Rattle.std.proofs.Common.{◌≡◌, ◌+◌, ◌*◌, arith, ap, sym, subst}
-use Rattle.mf_matrix.specs.Tables.{IsTable, IsInverse}
+use Rattle.mf_matrix.specs.Tables.{IsTable}
 use Rattle.mf_matrix.specs.Matrix.{Grid, IsGrid, entry}
 use Rattle.mf_matrix.specs.Elimination.{coefficient, SameSolutions, IsSolvedBelow, IsStuckAt}
 use Rattle.mf_matrix.proofs.Kernels.{stuck_system}
@@ -27,17 +27,16 @@ returns-in-Ok-clause-kernel c =
     (bytes_of _ m c.matrix.view_is c.matrix.invariant) c.equations_of-equations.ensures.says same solved stuck
     v f c.in-Ok.entries.items leading inverse lf is
 
-pub returns-in-Ok-inverse_cells-clause-inverse : goal.returns-in-Ok-inverse_cells-clause-inverse
-returns-in-Ok-inverse_cells-clause-inverse c =
+pub returns-clause-inverse : goal.returns-clause-inverse
+returns-clause-inverse c =
     let m = c.args.matrix.now in
     let size = c.matrix.inside.columns in
     let e = coefficient c.loop-column.equations in
     let init = coefficient c.equations_of-equations.result in
     let all : c.loop-column.column ≡ size = omega arith in
-    let b : Grid = record { rows = size; columns = size; cells = c.in-Ok-inverse_cells.cells.items } in
-    subst (λ (g : Grid). IsInverse m.columns (entry m) (entry g)) (sym c.new.ensures.made)
-    (solved_system size m.columns (entry m) (entry b) init e (ap (λ (g : Grid). g.columns) c.matrix.view_is)
-    (bytes_of _ m c.matrix.view_is c.matrix.invariant) (bytes_of _ b c.new.ensures.made c.new.ensures.kept)
+    let b : Grid = c.right_side.result in
+    solved_system size m.columns (entry m) (entry b) init e (ap (λ (g : Grid). g.columns) c.matrix.view_is)
+    (bytes_of _ m c.matrix.view_is c.matrix.invariant) (λ i j. c.right_side.ensures.kept.bytes (i * b.columns + j))
     c.equations_of-equations.ensures.says c.loop-column.invariant.same
     (subst (λ n. IsSolvedBelow size e n) all c.loop-column.invariant.solved)
-    c.in-Ok-inverse_cells.ensures.cells)
+    c.right_side.ensures.entries

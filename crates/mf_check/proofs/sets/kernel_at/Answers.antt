@@ -34,7 +34,7 @@ module _ (points places : List ℕ) (width e : ℕ) (set : IsPlaceSet (width + l
   kept_below : (read : List ℕ) → read ≡ kept → (i : ℕ) → i < length read → get_or read i 0 < length points
   kept_below read same = subst (λ (l : List ℕ). (i : ℕ) → i < length l → get_or l i 0 < length points) (sym same) (λ i li. splits.erasure.kept_places.below i 0 li)
 
-  module _ (g : Grid) (cells read : List ℕ) (made : g ≡ record { rows = e; columns = e; cells = cells }) (grid : IsGrid g) (same : read ≡ kept)
+  module _ (g : Grid) (cells read : List ℕ) (made : g ≡ record { rows = e; columns = e; entries = cells }) (grid : IsGrid g) (same : read ≡ kept)
       (at : (i j : ℕ) → i < length read → j < length lost → get_or cells (i * length lost + j) 0 ≡ entry points lost read i j) where
     columns_is : g.columns ≡ length lost
     columns_is = ap (λ (m : Grid). m.columns) made ∙ sym lost_len

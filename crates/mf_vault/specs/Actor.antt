@@ -1,20 +1,23 @@
 -- An actor of a file, and what each call of an access makes of it.
-use Rattle.std.specs.Prelude.{ℕ, ◌+◌, ◌-◌, Bool, true, false, List, [], ◌∷◌, ◌++◌, Option, Some, None}
-use Rattle.mf_machine.specs.declared.view.Slot.{Slot}
+use Rattle.std.specs.Prelude.{ℕ, ◌-◌, Bool, true, false, List, [], ◌∷◌, ◌++◌, Option, Some, None}
+use Rattle.mf_machine.specs.declared.answer.Slot.{Slot}
 use Rattle.mf_machine.specs.declared.view.View.{View}
 use Rattle.mf_machine.specs.Actors.{slot_of}
-use Rattle.mf_machine.specs.Answers.{begin_row, close_row, drop_answer, Drop}
-use Rattle.mf_machine.specs.Answers as machine
+use Rattle.mf_machine.specs.declared.answer.Closed.{Closed}
+use Rattle.mf_machine.specs.declared.answer.State.{State}
+use Rattle.mf_machine.specs.declared.answer.State.TheVariants as state
 use Rattle.mf_machine.specs.File.Home.{keeps, empty}
-use Rattle.mf_machine.specs.Moves.{World, Move, actor, run, word_of, name_word}
+use Rattle.mf_machine.specs.File.{name_word, removed}
+use Rattle.mf_machine.specs.Moves.{Move, by, run}
 use Rattle.mf_machine.specs.Moves as move
-use Rattle.mf_machine.specs.Rows as row
+use Rattle.mf_machine.specs.Steps as row
+use Rattle.mf_machine.specs.Steps.{begin_view, close_view, see_view, drop_answer, Drop}
+use Rattle.mf_machine.specs.Words.{number_of, absent}
+use Rattle.mf_machine.specs.Worlds.{World, actor, word_of}
 use Rattle.mf_places.specs.declared.Name.{Name}
 use Rattle.mf_places.specs.declared.servers.Servers.{Servers}
 use Rattle.mf_vault.specs.declared.answers.Answer.{Answer}
 use Rattle.mf_vault.specs.declared.answers.Answer.TheVariants as answer
-use Rattle.mf_vault.specs.declared.answers.Closed.{Closed}
-use Rattle.mf_vault.specs.declared.answers.Closed.TheVariants as closed
 use Rattle.mf_vault.specs.declared.answers.Entry.{Entry}
 use Rattle.mf_vault.specs.declared.answers.Entry.TheVariants as entry
 use Rattle.mf_vault.specs.declared.answers.Got.{Got}
@@ -23,9 +26,7 @@ use Rattle.mf_vault.specs.declared.answers.Op.{Op}
 use Rattle.mf_vault.specs.declared.answers.Op.TheVariants as op
 use Rattle.mf_vault.specs.declared.answers.Pinned.{Pinned}
 use Rattle.mf_vault.specs.declared.answers.Pinned.TheVariants.{At, Absent, Removed}
-use Rattle.mf_vault.specs.declared.answers.State.{State}
-use Rattle.mf_vault.specs.declared.answers.State.TheVariants as state
-use Rattle.mf_vault.specs.Facts.{Facts, file, number, stages, cell_of}
+use Rattle.mf_vault.specs.Facts.{Facts, file, number, cell_of}
 
 -- what an access tells of its actor
 pub record Actor : Type 0 where
@@ -59,26 +60,14 @@ pub data Call : Type 0 where
 -- ---- the view after a call: the rows of the file machine, by the answer
 
 abbrev pub pinned : Facts → Slot → Pinned → View → View
-pinned f slot (At g) v = row.pinned slot g (row.looked (g + 1) v)
-pinned f slot Absent v = row.looked 0 v
-pinned f slot Removed v = row.looked (stages f + 1) v
+pinned f slot (At g) v = row.pinned slot g (row.looked (number_of g) v)
+pinned f slot Absent v = row.looked absent v
+pinned f slot Removed v = row.looked (removed (file f)) v
 
 -- a closed generation that a pin meets is looked at, and missed
 abbrev pub tried : Facts → Slot → List ℕ → Pinned → View → View
 tried f slot [] p v = pinned f slot p v
-tried f slot (g ∷ gs) p v = tried f slot gs p (row.missed g (row.looked (g + 1) v))
-
-abbrev pub shut : Closed → machine.Closed
-shut closed.Done = machine.done
-shut (closed.Pins n) = machine.pins n
-shut closed.Already = machine.already
-
--- Away comes without a step
-abbrev pub probed : ℕ → State → View → View
-probed n state.Unborn v = row.told_unborn n v
-probed n state.Here v = row.told_here n v
-probed n (state.Lost l) v = row.told_lost n l v
-probed n (state.Away s) v = v
+tried f slot (g ∷ gs) p v = tried f slot gs p (row.missed g (row.looked (number_of g) v))
 
 -- a chunk that couldn't be shared was met Here
 abbrev pub got_by : ℕ → Got → View → View
@@ -99,13 +88,13 @@ abbrev pub seen : Facts → Call → View → View
 seen f (cut_off s) v = v
 seen f (pin slot gs p) v = tried f slot gs p v
 seen f (unpin slot) v = row.unpinned slot v
-seen f (begin b) v = begin_row b v
+seen f (begin b) v = begin_view b v
 seen f end v = row.ended v
 seen f (publish next) v = row.published next v
-seen f (probe x s) v = probed (number f x) s v
+seen f (probe x s) v = see_view s (number f x) v
 seen f (put x) v = row.born (number f x) v
 seen f (restore x) v = row.restored (number f x) v
-seen f (close g c) v = close_row (shut c) g v
+seen f (close g c) v = close_view c g v
 seen f (discard x b) v = discarded (number f x) b v
 seen f (get x o) v = got_by (number f x) o v
 seen f (lose x l b) v = lost_by (number f x) l b v
@@ -149,32 +138,39 @@ entry_of (lose x l b) = noted op.Lose x (change_answer b)
 
 -- ---- its moves, where the actor is alone; its number is then 0
 
+-- the actor has these bytes in its hand; it has nothing
+abbrev pub brought : List ℕ → Move
+brought bytes = by 0 (move.exchange (keeps bytes))
+
+abbrev pub emptied : Move
+emptied = by 0 (move.exchange empty)
+
 abbrev pub pin_moves : Slot → Pinned → List Move
-pin_moves slot (At g) = move.look 0 ∷ move.pin 0 slot g ∷ []
-pin_moves slot Absent = move.look 0 ∷ []
-pin_moves slot Removed = move.look 0 ∷ []
+pin_moves slot (At g) = by 0 move.look ∷ by 0 (move.pin slot g) ∷ []
+pin_moves slot Absent = by 0 move.look ∷ []
+pin_moves slot Removed = by 0 move.look ∷ []
 
 abbrev pub probe_moves : ℕ → State → List Move
-probe_moves n state.Unborn = move.see 0 n ∷ []
-probe_moves n state.Here = move.see 0 n ∷ []
-probe_moves n (state.Lost l) = move.see 0 n ∷ []
+probe_moves n state.Unborn = by 0 (move.see n) ∷ []
+probe_moves n state.Here = by 0 (move.see n) ∷ []
+probe_moves n (state.Lost l) = by 0 (move.see n) ∷ []
 probe_moves n (state.Away s) = []
 
 abbrev pub get_moves : ℕ → Got → List Move
-get_moves n (got.Here c) = move.take 0 n ∷ move.give 0 n ∷ []
-get_moves n (got.Lost l) = move.take 0 n ∷ []
+get_moves n (got.Here c) = by 0 (move.take n) ∷ by 0 (move.give n) ∷ []
+get_moves n (got.Lost l) = by 0 (move.take n) ∷ []
 get_moves n (got.Away s) = []
-get_moves n got.Memory = move.take 0 n ∷ move.give 0 n ∷ []
+get_moves n got.Memory = by 0 (move.take n) ∷ by 0 (move.give n) ∷ []
 
 -- by what the first try meets
 abbrev pub drop_moves : ℕ → Drop → List Move
-drop_moves n machine.drops = move.drop 0 n ∷ move.exchange 0 empty ∷ move.dropped 0 n ∷ []
-drop_moves n machine.tries = move.drop 0 n ∷ move.drop_again 0 n ∷ []
-drop_moves n machine.stays = move.drop 0 n ∷ []
+drop_moves n row.drops = by 0 (move.drop n) ∷ emptied ∷ by 0 (move.dropped n) ∷ []
+drop_moves n row.tries = by 0 (move.drop n) ∷ by 0 (move.drop_again n) ∷ []
+drop_moves n row.nothing = by 0 (move.drop n) ∷ []
 
 abbrev pub lose_moves : ℕ → ℕ → Bool → List Move
-lose_moves n l true = move.lose 0 n l ∷ move.exchange 0 empty ∷ move.lost 0 n l ∷ []
-lose_moves n l false = move.lose 0 n l ∷ []
+lose_moves n l true = by 0 (move.lose n l) ∷ emptied ∷ by 0 (move.lost n l) ∷ []
+lose_moves n l false = by 0 (move.lose n l) ∷ []
 
 -- what a word of a name says
 abbrev pub word_at : Facts → World → Name → ℕ
@@ -183,16 +179,14 @@ word_at f w x = word_of w (name_word (file f) (number f x))
 abbrev pub moves : Facts → World → Call → List Move
 moves f w (cut_off s) = []
 moves f w (pin slot gs p) = pin_moves slot p
-moves f w (unpin slot) = move.unpin 0 slot (slot_of slot (actor w 0) - 1) ∷ []
-moves f w (begin b) = move.begin 0 ∷ []
-moves f w end = move.end 0 ∷ []
-moves f w (publish next) = move.publish 0 next ∷ []
+moves f w (unpin slot) = by 0 (move.unpin slot (slot_of slot (actor w 0) - 1)) ∷ []
+moves f w (begin b) = by 0 move.begin ∷ []
+moves f w end = by 0 move.end ∷ []
+moves f w (publish next) = by 0 (move.publish next) ∷ []
 moves f w (probe x s) = probe_moves (number f x) s
-moves f w (put x) =
-    move.birth 0 (number f x) ∷ move.exchange 0 (keeps (cell_of f x)) ∷ move.born 0 (number f x) ∷ []
-moves f w (restore x) =
-    move.retake 0 (number f x) ∷ move.exchange 0 (keeps (cell_of f x)) ∷ move.restored 0 (number f x) ∷ []
-moves f w (close g c) = move.close 0 g ∷ []
+moves f w (put x) = by 0 (move.birth (number f x)) ∷ brought (cell_of f x) ∷ by 0 (move.born (number f x)) ∷ []
+moves f w (restore x) = by 0 (move.retake (number f x)) ∷ brought (cell_of f x) ∷ by 0 (move.restored (number f x)) ∷ []
+moves f w (close g c) = by 0 (move.close g) ∷ []
 moves f w (discard x b) = drop_moves (number f x) (drop_answer (word_at f w x))
 moves f w (get x o) = get_moves (number f x) o
 moves f w (lose x l b) = lose_moves (number f x) l b

@@ -1,24 +1,27 @@
 -- What is promised of the answer of each call: of any actor, and of one that is alone.
-use Rattle.std.specs.Prelude.{◌≡◌, ℕ, ◌+◌, ◌<◌, ◌≤◌, Bool, true, false, [], IfSome}
+use Rattle.std.specs.Prelude.{◌≡◌, ℕ, ◌<◌, ◌≤◌, Bool, true, false, [], IfSome}
 use Rattle.mf_machine.specs.declared.view.View.{View}
 use Rattle.mf_machine.specs.Actors.{PinHolds}
-use Rattle.mf_machine.specs.Answers.{begin_answer, see_answer, take_answer, close_answer, drop_answer, lose_answer}
-use Rattle.mf_machine.specs.Answers as machine
-use Rattle.mf_machine.specs.File.{IsLoseLine}
-use Rattle.mf_machine.specs.Moves.{World, word_of}
+use Rattle.mf_machine.specs.declared.answer.Closed.{Closed}
+use Rattle.mf_machine.specs.declared.answer.Closed.TheVariants as closed
+use Rattle.mf_machine.specs.declared.answer.LoseStep.{LoseStep}
+use Rattle.mf_machine.specs.declared.answer.LoseStep.TheVariants as losing
+use Rattle.mf_machine.specs.declared.answer.State.{State}
+use Rattle.mf_machine.specs.declared.answer.State.TheVariants as state
+use Rattle.mf_machine.specs.File.{IsLoseLine, removed}
+use Rattle.mf_machine.specs.Steps as step
+use Rattle.mf_machine.specs.Steps.{begin_answer, see_answer, take_answer, close_answer, drop_answer, lose_answer}
+use Rattle.mf_machine.specs.Words.{number_word, right_word, pins_word, number_of, absent, removed_of}
+use Rattle.mf_machine.specs.Worlds.{World, word_of}
 use Rattle.mf_places.specs.declared.Name.{Name}
 use Rattle.mf_places.specs.Servers.{IsIn}
-use Rattle.mf_vault.specs.declared.answers.Closed.{Closed}
-use Rattle.mf_vault.specs.declared.answers.Closed.TheVariants as closed
 use Rattle.mf_vault.specs.declared.answers.Got.{Got}
 use Rattle.mf_vault.specs.declared.answers.Got.TheVariants as got
 use Rattle.mf_vault.specs.declared.answers.Pinned.{Pinned}
 use Rattle.mf_vault.specs.declared.answers.Pinned.TheVariants.{At, Absent, Removed}
-use Rattle.mf_vault.specs.declared.answers.State.{State}
-use Rattle.mf_vault.specs.declared.answers.State.TheVariants as state
 use Rattle.mf_vault.specs.Facts.{Facts, file, number, server, stages, cell_of}
 use Rattle.mf_vault.specs.Actor.{Actor, Call, cut_off, pin, unpin, begin, end, publish, probe, put, restore, close}
-use Rattle.mf_vault.specs.Actor.{discard, get, lose, did, shut, word_at}
+use Rattle.mf_vault.specs.Actor.{discard, get, lose, did, word_at}
 
 -- the server of the name is cut off
 abbrev pub IsCut : Actor → Name → Type 0
@@ -39,9 +42,9 @@ IsLostBy a x l = IsReached a x × IsLoseLine (file a.facts) (number a.facts x) l
 
 -- a pinned generation is a stage, and the number looked at isn't below what was seen
 abbrev pub IsPin : Facts → Pinned → View → Type 0
-IsPin f (At g) v = (g < stages f) × (v.seen.number ≤ g + 1)
-IsPin f Absent v = v.seen.number ≡ 0
-IsPin f Removed v = v.seen.number ≤ stages f + 1
+IsPin f (At g) v = (g < stages f) × (v.seen.number ≤ number_of g)
+IsPin f Absent v = v.seen.number ≡ absent
+IsPin f Removed v = v.seen.number ≤ removed (file f)
 
 -- Unborn never comes for a name of a pinned generation
 abbrev pub FairState : Actor → Name → State → Type 0
@@ -80,42 +83,43 @@ IsFair (lose x l b) a = Unit {0}
 -- ---- of an actor that is alone: the answer is the row's in the whole state
 
 abbrev pub IsNumber : ℕ → Pinned → ℕ → Type 0
-IsNumber q (At g) x = (x ≡ g + 1) × (g < q)
-IsNumber q Absent x = x ≡ 0
-IsNumber q Removed x = x ≡ q + 1
+IsNumber q (At g) x = (x ≡ number_of g) × (g < q)
+IsNumber q Absent x = x ≡ absent
+IsNumber q Removed x = x ≡ removed_of q
 
+-- Away comes without a step
 abbrev pub IsState : State → ℕ → Type 0
-IsState state.Unborn x = see_answer x ≡ machine.unborn
-IsState state.Here x = see_answer x ≡ machine.here
-IsState (state.Lost l) x = see_answer x ≡ machine.lost l
+IsState state.Unborn x = see_answer x ≡ state.Unborn
+IsState state.Here x = see_answer x ≡ state.Here
+IsState (state.Lost l) x = see_answer x ≡ state.Lost l
 IsState (state.Away s) x = Unit {0}
 
 abbrev pub IsGot : Got → ℕ → Type 0
-IsGot (got.Here c) x = take_answer x ≡ machine.chunk
-IsGot (got.Lost l) x = take_answer x ≡ machine.gone l
+IsGot (got.Here c) x = take_answer x ≡ step.chunk
+IsGot (got.Lost l) x = take_answer x ≡ step.gone l
 IsGot (got.Away s) x = Unit {0}
-IsGot got.Memory x = take_answer x ≡ machine.chunk
+IsGot got.Memory x = take_answer x ≡ step.chunk
 
-abbrev pub was_dropped : machine.Drop → Bool
-was_dropped machine.drops = true
-was_dropped machine.tries = true
-was_dropped machine.stays = false
+abbrev pub was_dropped : step.Drop → Bool
+was_dropped step.drops = true
+was_dropped step.tries = true
+was_dropped step.nothing = false
 
-abbrev pub was_lost : Bool → machine.Lose
-was_lost true = machine.loses
-was_lost false = machine.nothing
+abbrev pub was_lost : Bool → LoseStep
+was_lost true = losing.Done
+was_lost false = losing.Nothing
 
 abbrev pub IsAnswer : Facts → Call → World → Type 0
 IsAnswer f (cut_off s) w = Unit {0}
-IsAnswer f (pin slot gs p) w = (gs ≡ []) × IsNumber (stages f) p (word_of w 0)
+IsAnswer f (pin slot gs p) w = (gs ≡ []) × IsNumber (stages f) p (word_of w number_word)
 IsAnswer f (unpin slot) w = Unit {0}
-IsAnswer f (begin b) w = b ≡ begin_answer (word_of w 1)
+IsAnswer f (begin b) w = b ≡ begin_answer (word_of w right_word)
 IsAnswer f end w = Unit {0}
 IsAnswer f (publish next) w = Unit {0}
 IsAnswer f (probe x s) w = IsState s (word_at f w x)
 IsAnswer f (put x) w = Unit {0}
 IsAnswer f (restore x) w = Unit {0}
-IsAnswer f (close g c) w = shut c ≡ close_answer (word_of w (g + 2))
+IsAnswer f (close g c) w = c ≡ close_answer (word_of w (pins_word g))
 IsAnswer f (discard x b) w = b ≡ was_dropped (drop_answer (word_at f w x))
 IsAnswer f (get x o) w = IsGot o (word_at f w x)
 IsAnswer f (lose x l b) w = was_lost b ≡ lose_answer (word_at f w x)

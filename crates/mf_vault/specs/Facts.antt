@@ -11,7 +11,8 @@ use Rattle.mf_places.specs.Generations.{holds}
 use Rattle.mf_places.specs.Placement.{server_of}
 use Rattle.mf_places.specs.Rows.{number_of}
 
--- *Cell*: what a name stands for. Data and copies are chunks of the file, and a parity is the parity by its point of its
+-- *Cell*: what a name stands for. Data and copies are chunks of the file, and a parity is the parity by its point of
+-- its
 -- stripe
 abbrev pub cell : BookFacts → List ℕ → Name → List ℕ
 cell l bytes (name.Data i) = chunk l.chunk bytes i

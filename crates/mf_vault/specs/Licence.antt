@@ -1,16 +1,17 @@
 -- What an engine did, as a list of calls with their answers; and what every access keeps.
-use Rattle.std.specs.Prelude.{◌≡◌, ℕ, ◌+◌, ◌<◌, ◌≤◌, true, List, [], ◌∷◌, ◌++◌, length, All, IfSome}
+use Rattle.std.specs.Prelude.{◌≡◌, ℕ, ◌<◌, ◌≤◌, true, List, [], ◌∷◌, ◌++◌, length, All, IfSome}
 use Rattle.mf_machine.specs.declared.view.View.{View}
-use Rattle.mf_machine.specs.Actors.{Active, Free}
-use Rattle.mf_machine.specs.Moves.{World, Fits, actor, read, word_of}
+use Rattle.mf_machine.specs.Actors.{Active, Free, HasRight, HasLooked, LastLooked}
+use Rattle.mf_machine.specs.File.{removed}
 use Rattle.mf_machine.specs.Rest as resting
-use Rattle.mf_machine.specs.Rows.{no_step, outside}
 use Rattle.mf_machine.specs.Ruled.{Ruled}
 use Rattle.mf_places.specs.Facts.{IsBook}
 use Rattle.mf_vault.specs.Facts.{Facts, file, stages}
 use Rattle.mf_vault.specs.declared.answers.Entry.{Entry}
-use Rattle.mf_machine.specs.declared.view.Slot.TheVariants.{Work}
-use Rattle.mf_machine.specs.Rows.{begun}
+use Rattle.mf_machine.specs.declared.answer.Slot.TheVariants.{Work}
+use Rattle.mf_machine.specs.Steps.{begun}
+use Rattle.mf_machine.specs.Words.{right_word, number_of, absent, filled}
+use Rattle.mf_machine.specs.Worlds.{World, Fits, actor, read, word_of, no_step, outside}
 use Rattle.mf_vault.specs.declared.answers.Pinned.{Pinned}
 use Rattle.mf_vault.specs.declared.answers.Pinned.TheVariants.{At, Absent, Removed}
 use Rattle.mf_vault.specs.Actor.{Actor, Call, begin, pin, did, entry_of}
@@ -71,7 +72,7 @@ pub record Holding (f : Facts) (w : World) : Type 0 where
 pub record IsAlone (f : Facts) (v : View) (w : World) : Type 0 where
   pub view : v ≡ erased (actor w 0)
   pub only : w.views ≡ actor w 0 ∷ []
-  pub right : word_of w 1 ≡ v.build.right
+  pub right : word_of w right_word ≡ v.build.right
   pub holding : ∥ Holding f w ∥₁
 
 pub record IsKept (a : Actor) : Type 0 where
@@ -83,20 +84,20 @@ pub record IsKept (a : Actor) : Type 0 where
 
 -- the number that a pin looked at, and the Work slot after it
 abbrev pub number_of_pin : Facts → Pinned → ℕ
-number_of_pin f (At g) = g + 1
-number_of_pin f Absent = 0
-number_of_pin f Removed = stages f + 1
+number_of_pin f (At g) = number_of g
+number_of_pin f Absent = absent
+number_of_pin f Removed = removed (file f)
 
 abbrev pub work_of_pin : Pinned → ℕ → ℕ
-work_of_pin (At g) work = g + 1
+work_of_pin (At g) work = filled g
 work_of_pin Absent work = work
 work_of_pin Removed work = work
 
 -- the actor has the right, and has looked at the published number n since its begin
 pub record IsBuilding (a : Actor) (n : ℕ) : Type 0 where
-  pub right : a.view.build.right ≡ 1
-  pub looked : a.view.build.looked ≡ 1
-  pub last : a.view.last ≡ n + 1
+  pub right : HasRight a.view.build
+  pub looked : HasLooked a.view.build
+  pub last : LastLooked a.view.last n
   pub seen : a.view.seen.number ≡ n
 
 -- a begin answered true, and a pin of the Work slot with this answer

@@ -9,15 +9,15 @@ ghost use Rattle.mf_vault.specs.Licence.{IsKept};
 ghost use Rattle.mf_vault.specs.May.{MayPin, MayUnpin, MayBegin, MayEnd, MayPublish, MayClose};
 ghost use Rattle.mf_vault.specs.May.{MayProbe, MayPut, MayRestore, MayDiscard};
 
-use crate::answers::{Closed, Entry, Pinned, State};
+use crate::answers::{Entry, Pinned};
 use mf_kernel::{Chunk, Memory};
-use mf_machine::Slot;
+use mf_machine::{Closed, Slot, State};
 use mf_places::{Book, Name, Servers};
 
 /// One actor's hold on one file. None of its calls waits for another actor.
 pub trait Access {
-    /// The file's facts, what the actor knows, its ledger, its cut-off servers, and the whole state where the actor is
-    /// alone.
+    /// The file's facts, what the actor knows, its ledger, its cut-off servers, and the whole state
+    /// where the actor is alone.
     ghost actor: { Self → Actor };
     /// How many entries the ledger can still take without memory.
     ghost spare: { Self → ℕ };
@@ -68,7 +68,8 @@ pub trait Access {
         ensures goes { Goes call.end (actor self.old) (actor self.new) }
         ensures spare { spare self.new ≡ spare self.old };
 
-    /// Makes room for n more entries in the ledger. After an error, which is want of memory alone, all is as before.
+    /// Makes room for n more entries in the ledger. After an error, which is want of memory alone,
+    /// all is as before.
     fn reserve(&mut self, n: usize) -> Result<(), Memory>
         ensures stays { actor self.new ≡ actor self.old }
         ensures room { IfOk result (λ _. n ≤ spare self.new) }
@@ -110,13 +111,15 @@ pub trait Access {
         ensures goes { Goes (call.close g result) (actor self.old) (actor self.new) }
         ensures spare { spare self.old ≤ spare self.new + 1 };
 
-    /// Drops a name that only closed generations hold. It answers true exactly where it changed the name.
+    /// Drops a name that only closed generations hold. It answers true exactly where it changed the
+    /// name.
     fn discard(&mut self, name: Name) -> bool
         requires may { MayDiscard name (actor self.old) }
         requires room { 0 < spare self.old }
         ensures goes { Goes (call.discard name result) (actor self.old) (actor self.new) }
         ensures spare { spare self.old ≤ spare self.new + 1 };
 
-    /// The facts are those of a file, the actor can act, and where it is alone the whole state keeps the rule.
+    /// The facts are those of a file, the actor can act, and where it is alone the whole state
+    /// keeps the rule.
     ghost kept: { (s : Self) → IsKept (actor s) };
 }

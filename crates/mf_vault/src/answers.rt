@@ -1,6 +1,7 @@
 //! What the calls of an access answer, and the entries of its ledger.
 
 use mf_kernel::Chunk;
+use mf_machine::Closed;
 use mf_places::Name;
 
 /// What a pin found: the generation that it pinned; or that the file isn't created, or is removed.
@@ -11,7 +12,8 @@ pub enum Pinned {
     Removed,
 }
 
-/// What a get found. Lost has the line of the lose command, and Away the server that can't be reached.
+/// What a get found. Lost has the line of the lose command, and Away the server that can't be
+/// reached.
 #[derive(Debug, Drop)]
 pub enum Got {
     Here(Chunk),
@@ -19,23 +21,6 @@ pub enum Got {
     Away(u32),
     /// The chunk couldn't be shared for want of memory.
     Memory,
-}
-
-/// What a probe found.
-#[derive(Clone, Copy, Debug, PartialEq, Eq, Drop)]
-pub enum State {
-    Unborn,
-    Here,
-    Lost(u32),
-    Away(u32),
-}
-
-/// What a close found: no pin, so many pins, or that the generation was closed.
-#[derive(Clone, Copy, Debug, PartialEq, Eq, Drop)]
-pub enum Closed {
-    Done,
-    Pins(u32),
-    Already,
 }
 
 /// An operation on a chunk.

@@ -6,8 +6,8 @@ mod answers;
 mod fetch;
 
 pub use access::Access;
-pub use answers::{Answer, Closed, Entry, Got, Op, Pinned, Rest, State};
+pub use answers::{Answer, Entry, Got, Op, Pinned, Rest};
 pub use fetch::Fetch;
 pub use mf_kernel::{Chunk, Memory};
-pub use mf_machine::Slot;
-pub use mf_places::{Book, Name, Servers};
+pub use mf_machine::{Closed, Slot, State};
+pub use mf_places::{Book, LoseLine, Losses, Name, Servers};

@@ -1,6 +1,7 @@
 -- The chunks of a file, and its parities. `size` is the number of bytes of a chunk, and `file` has the file's bytes.
-use Rattle.std.specs.Prelude.{ℕ, ◌+◌, ◌-◌, ◌*◌, min, List, length, slice_index}
+use Rattle.std.specs.Prelude.{ℕ, ◌+◌, ◌-◌, ◌*◌, min, List, length, map, slice_index}
 use Rattle.std.specs.Int.{div_ceil}
+use Rattle.std.specs.List.{range_with_len}
 use Rattle.mf_code.specs.Field.{times, power}
 use Rattle.mf_code.specs.Sums.{sum_between}
 use Rattle.mf_code.specs.Rows.{list_of}
@@ -23,3 +24,7 @@ parity_byte size file point width j x =
 -- The parity with this point of stripe j of this width.
 unfoldable pub parity : ℕ → List ℕ → ℕ → ℕ → ℕ → List ℕ
 parity size file point width j = list_of size (parity_byte size file point width j)
+
+-- The chunks of the file, in order.
+unfoldable pub chunks : ℕ → List ℕ → List (List ℕ)
+chunks size file = map (chunk size file) (range_with_len 0 (chunk_count size (length file)))

@@ -10,6 +10,9 @@ ghost use Rattle.mf_code.specs.Stripes.{stripe};
 ghost use Rattle.mf_stripe.specs.Block.{rows, with_columns};
 ghost use lib.Lanes.{zip2};
 
+mod cutting;
+
+pub use cutting::{cut, join, stripe_pieces};
 use mf_field::pow;
 pub use mf_kernel::{Chunk, Memory};
 use mf_kernel::{BLOCK, add_scaled};

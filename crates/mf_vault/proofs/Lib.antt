@@ -1,3 +1,4 @@
 pub mod Doing
 pub mod Entering
 pub mod Held
+pub mod Counted

@@ -3,3 +3,4 @@ pub mod Actor
 pub mod Answers
 pub mod May
 pub mod Licence
+pub mod Counting

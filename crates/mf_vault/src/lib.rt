@@ -4,10 +4,12 @@
 mod access;
 mod answers;
 mod fetch;
+mod io;
 
 pub use access::Access;
 pub use answers::{Answer, Entry, Got, Op, Pinned, Rest};
 pub use fetch::Fetch;
+pub use io::{Io, count_io};
 pub use mf_kernel::{Chunk, Memory};
 pub use mf_machine::{Closed, Slot, State};
 pub use mf_places::{Book, LoseLine, Losses, Name, Servers};

@@ -12,7 +12,7 @@ use Rattle.mf_field.proofs.Powers.{power-add, power-lt, power-pos}
 use Rattle.mf_field.proofs.SumLaws.{times_sum}
 use Rattle.mf_matrix.specs.Tables.{OnlyZero}
 use Rattle.mf_erasure.specs.Erasure.{entry, IsPlaces, IsComplement, others_from, places_of, Splits}
-use Rattle.mf_erasure.proofs.Others.{Rises}
+use Rattle.mf_lemmas.proofs.Rising.{Rises}
 use Rattle.mf_erasure.proofs.Places.{places_from, rises_from, others_complement, complement_swap, splits_from, place_set_from, length-places_of, take_apart}
 use Rattle.mf_erasure.proofs.Bridge.{only_zero_from_decodable, decodable_from_only_zero}
 

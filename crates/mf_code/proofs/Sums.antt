@@ -1,7 +1,8 @@
 -- What a sum is made of: its first part and its last term.
 use Rattle.std.proofs.Common.{◌≡◌, ℕ, zero, suc, ◌+◌, ◌<◌, bit_xor, refl, sym, ap, ap₂, ◌∙◌, arith, add-zero, add-suc}
 use Rattle.std.specs.Int.Bits.{xor_assoc, xor_zero_r}
-use Rattle.std.proofs.lemmas.Nat.{xor_comm, xor_lt}
+use Rattle.std.proofs.lemmas.Nat.{xor_lt}
+use Rattle.mf_lemmas.proofs.Numbers.{xor_swap}
 use Rattle.mf_code.specs.Sums.{sum_below}
 
 pub sum_below-none : (f : ℕ → ℕ) → sum_below 0 f ≡ 0
@@ -50,10 +51,4 @@ unfolding sum_below
 sum_below_xor zero f g = refl
 sum_below_xor (suc n) f g =
     ap (λ (s : ℕ). bit_xor s (bit_xor (f n) (g n))) (sum_below_xor n f g)
-    ∙ swap_middle (sum_below n f) (sum_below n g) (f n) (g n)
-  where
-    swap_middle : (a b c d : ℕ) → bit_xor (bit_xor a b) (bit_xor c d) ≡ bit_xor (bit_xor a c) (bit_xor b d)
-    swap_middle a b c d =
-        xor_assoc a b (bit_xor c d)
-        ∙ ap (bit_xor a) (sym (xor_assoc b c d) ∙ ap (λ (x : ℕ). bit_xor x d) (xor_comm b c) ∙ xor_assoc c b d)
-        ∙ sym (xor_assoc a c (bit_xor b d))
+    ∙ xor_swap (sum_below n f) (sum_below n g) (f n) (g n)

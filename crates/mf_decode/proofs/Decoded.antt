@@ -12,7 +12,7 @@ use Rattle.mf_code.specs.Rows.{column}
 use Rattle.mf_code.proofs.Sums.{sum_below-same}
 use Rattle.mf_matrix.specs.Tables.{GivesIdentity}
 use Rattle.mf_erasure.specs.Erasure.{entry}
-use Rattle.mf_erasure.proofs.Bridge.{byte_at}
+use Rattle.mf_lemmas.proofs.Lists.{byte_at}
 use Rattle.mf_decode.specs.Decoding.{Plan, points_of, gaps_from, filled, column_of, AgreesInColumn, IsDecodedAt}
 use Rattle.mf_decode.specs.Columns.{there, weight_of}
 use Rattle.mf_decode.specs.Plans.{IsPlan}

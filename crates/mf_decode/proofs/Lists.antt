@@ -9,7 +9,7 @@ use Rattle.mf_code.specs.Sums.{weighted}
 use Rattle.mf_code.specs.Rows.{column}
 use Rattle.mf_code.proofs.Lists.{list_of_at, list_of_from}
 use Rattle.mf_code.specs.Decodable.{IsData}
-use Rattle.mf_erasure.proofs.Bridge.{byte_at}
+use Rattle.mf_lemmas.proofs.Lists.{byte_at}
 use Rattle.mf_decode.specs.Stripes.{IsChunk, IsDataList, parity_of}
 use Rattle.mf_decode.specs.Decoding.{Plan, points_of, gaps_from, filled, column_of, Agrees, AgreesInColumn, IsDecodedAt}
 use Rattle.mf_decode.specs.Plans.{IsPlan}

@@ -15,7 +15,8 @@ use Rattle.mf_code.proofs.Lists.{length-list_of, list_of_at}
 use Rattle.mf_field.proofs.FieldLaws.{zero-times, one-times, times_assoc, times_add, times-lt}
 use Rattle.mf_field.proofs.Powers.{power-lt}
 use Rattle.mf_field.proofs.SumLaws.{times_sum, sum_times, sum_below_swap, sum_below-single}
-use Rattle.mf_erasure.proofs.Bridge.{byte_at, all_list_of}
+use Rattle.mf_lemmas.proofs.Lists.{byte_at}
+use Rattle.mf_erasure.proofs.Bridge.{all_list_of}
 use Rattle.mf_matrix.specs.Tables.{GivesIdentity, product_at, identity_at}
 use Rattle.mf_decode.specs.Decoding.{gaps_from, filled, AgreesInColumn}
 use Rattle.mf_decode.specs.Columns.{there}

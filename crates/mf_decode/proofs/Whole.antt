@@ -5,7 +5,7 @@ use Rattle.std.proofs.lemmas.List.{length-map, get_or-map, get_or_default, ext_g
 use Rattle.std.proofs.lemmas.List.Recursion.{is_count_by}
 use Rattle.std.proofs.lemmas.Option.{slice_get-get_or}
 use Rattle.mf_erasure.specs.Erasure.{IsErasure}
-use Rattle.mf_erasure.proofs.Others.{Rises, rises_none, rises_cons}
+use Rattle.mf_lemmas.proofs.Rising.{Rises, rises_none, rises_cons}
 use Rattle.mf_erasure.proofs.Places.{places_from}
 use Rattle.mf_decode.specs.Stripes.{Stripe, IsChunk, IsDataList, parity_of}
 use Rattle.mf_decode.specs.declared.pieces.Asked.{Asked}

@@ -1,15 +1,12 @@
 -- A set of places is decodable where the matrix of its erasure sends only the zero list to zero, and the other way round.
-use mathlib.Core.Logic.{dite}
-use native.Mathlib.Decide.{ℕ_discrete}
-use Rattle.std.proofs.Common.{◌≡◌, ◌≢◌, ℕ, zero, suc, ◌+◌, ◌-◌, ◌<◌, ◌⊎◌, List, length, get_or, map, refl, sym, ◌∙◌, ap, ap₂, subst, inl, inr, ⊎_elim, arith}
+use Rattle.std.proofs.Common.{◌≡◌, ◌≢◌, ℕ, ◌+◌, ◌-◌, ◌<◌, List, length, get_or, map, refl, sym, ◌∙◌, ap, ap₂, subst, inl, inr, ⊎_elim, arith}
 use Rattle.std.specs.Prelude.{bit_xor, All, Contains}
-use Rattle.std.specs.Int.Bits.{xor_self, xor_zero_l, xor_zero_r, xor_assoc}
-use Rattle.std.specs.List.Sorted.{IsStrictlyIncreasing}
 use Rattle.std.proofs.lemmas.Bool.{cases_lt}
-use Rattle.std.proofs.lemmas.List.Kept.{AllPairs-from_increasing}
-use Rattle.std.proofs.lemmas.List.{get_or_default, get_or_past, get_or_append_left, get_or-append_right, get_or-map}
+use Rattle.std.proofs.lemmas.List.{get_or_default, get_or_append_left, get_or-append_right, get_or-map}
 use Rattle.std.proofs.Math.ListN.{length-append, length-map}
 use Rattle.std.proofs.lemmas.Nat.{xor_lt}
+use Rattle.mf_lemmas.proofs.Numbers.{equal_from_sum, sum_from_equal}
+use Rattle.mf_lemmas.proofs.Lists.{contains_at, at_contains, rising_differ, find_in, byte_at}
 use Rattle.mf_code.specs.Field.{times, power}
 use Rattle.mf_code.specs.Sums.{sum_below, weighted}
 use Rattle.mf_code.specs.Rows.{list_of}
@@ -21,41 +18,11 @@ use Rattle.mf_matrix.specs.Tables.{OnlyZero}
 use Rattle.mf_erasure.specs.Erasure.{entry, Splits}
 use Rattle.mf_erasure.proofs.Spread.{at_place, at_place-zero, spread, sum_spread, spread-other, spread-lost, spread-lt}
 
--- an element by its place
-pub contains_at : (xs : List ℕ) (x : ℕ) → Contains xs x → (j : ℕ) × (j < length xs) × (get_or xs j 0 ≡ x)
-contains_at xs x c = (c.0, c.1, get_or_default xs c.0 0 x c.1 ∙ c.2)
-
-pub at_contains : (xs : List ℕ) (j : ℕ) → j < length xs → Contains xs (get_or xs j 0)
-at_contains xs j lt = (j, lt, get_or_default xs j (get_or xs j 0) 0 lt)
-
--- the places of a rising list differ
-pub rising_differ : (xs : List ℕ) → IsStrictlyIncreasing xs → (i j : ℕ) → i < length xs → j < length xs → i ≢ j → get_or xs i 0 ≢ get_or xs j 0
-rising_differ xs r i j li lj d = elim (cases_lt i j) [
-  | inl low ↦ (let h : get_or xs i 0 < get_or xs j 0 = AllPairs-from_increasing xs r i j 0 low lj in λ e. omega arith)
-  | inr high ↦ (let h : get_or xs j 0 < get_or xs i 0 = AllPairs-from_increasing xs r j i 0 (omega arith) li in λ e. omega arith)
-]
-
--- a number is one of the first n values, or none of them
-pub find_in : (n : ℕ) (f : ℕ → ℕ) (t : ℕ) → ((j : ℕ) × (j < n) × (f j ≡ t)) ⊎ ((j : ℕ) → j < n → f j ≢ t)
-find_in zero f t = inr (λ j l. absurd (omega arith))
-find_in (suc n) f t = dite (ℕ_discrete (f n) t)
-    (λ e. inl (n, omega arith, e))
-    (λ ne. ⊎_elim
-    (λ found. let l : found.0 < n = found.1 in inl (found.0, omega arith, found.2))
-    (λ none. inr (λ j l. dite (ℕ_discrete j n) (λ e. subst (λ (m : ℕ). f m ≢ t) (sym e) ne) (λ d. none j (omega arith))))
-    (find_in n f t))
-
 pub all_list_of : (n : ℕ) (f : ℕ → ℕ) → ((x : ℕ) → x < n → f x < 256) → All (λ b. b < 256) (list_of n f)
 all_list_of n f h k d lt =
     let len = length-list_of n f in
     let low : k < n = omega arith in
     subst (λ v. v < 256) (sym (get_or_default (list_of n f) k d 0 lt ∙ list_of_at n f k low)) (h k low)
-
-pub byte_at : (xs : List ℕ) → All (λ b. b < 256) xs → (k : ℕ) → get_or xs k 0 < 256
-byte_at xs h k = elim (cases_lt k (length xs)) [
-  | inl low ↦ h k 0 low
-  | inr high ↦ subst (λ v. v < 256) (sym (get_or_past xs k 0 high)) (omega arith)
-]
 
 -- a weighted sum over a list of known length
 pub weighted_over : (width point : ℕ) (xs : List ℕ) → length xs ≡ width → weighted point xs ≡ sum_below width (λ t. times (power point t) (get_or xs t 0))
@@ -137,13 +104,6 @@ only_zero_from_decodable width points places lost kept s one x bytes rows j lt =
         (agree_from width points places lost kept d none s (length-list_of width (spread n at x)) (length-list_of width (λ t. 0))
         (λ t l out. list_of_at width (spread n at x) t l ∙ spread-other n at x t out ∙ sym (list_of_at width (λ t. 0) t l))
         parity)
-
--- numbers whose sum is zero are equal
-equal_from_sum : (a b : ℕ) → bit_xor a b ≡ 0 → a ≡ b
-equal_from_sum a b e = sym (xor_zero_r a) ∙ ap (bit_xor a) (sym (xor_self b)) ∙ sym (xor_assoc a b b) ∙ ap (λ v. bit_xor v b) e ∙ xor_zero_l b
-
-sum_from_equal : (a b : ℕ) → a ≡ b → bit_xor a b ≡ 0
-sum_from_equal a b e = ap (λ v. bit_xor v b) e ∙ xor_self b
 
 -- Where the matrix sends only the zero list to zero, the places are decodable.
 pub decodable_from_only_zero : (width : ℕ) (points places lost kept : List ℕ) → Splits width (length points) places lost kept

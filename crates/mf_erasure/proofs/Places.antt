@@ -5,11 +5,13 @@ use Rattle.std.proofs.lemmas.Bool.{cases_lt}
 use Rattle.std.proofs.lemmas.List.Kept.{AllPairs-from_increasing}
 use Rattle.std.proofs.lemmas.List.{get_or_default, get_or_append_left, get_or-append_right, get_or-map, length-map}
 use Rattle.std.proofs.Math.ListN.{length-append}
+use Rattle.mf_lemmas.proofs.Lists.{contains_at, at_contains}
+use Rattle.mf_lemmas.proofs.Rising.{Rises, rises_none, rises_cons, rises_tail, rises_wider}
 use Rattle.mf_code.specs.Decodable.{IsPlaceSet, IsDecodable}
 use Rattle.mf_matrix.specs.Tables.{OnlyZero}
 use Rattle.mf_erasure.specs.Erasure.{entry, IsPlaces, IsErasure, IsComplement, Splits, others_from, places_of}
-use Rattle.mf_erasure.proofs.Bridge.{contains_at, at_contains, only_zero_from_decodable}
-use Rattle.mf_erasure.proofs.Others.{Rises, rises_none, rises_cons, rises_tail, Has, Shares, others_share}
+use Rattle.mf_erasure.proofs.Bridge.{only_zero_from_decodable}
+use Rattle.mf_erasure.proofs.Others.{Has, Shares, others_share}
 
 pub rises_from : (count : ℕ) (xs : List ℕ) → IsPlaces count xs → Rises 0 count xs
 rises_from count xs p = record {
@@ -119,11 +121,8 @@ places_rise width count lost gone low high = walk 0 lost (omega arith) (rises_fr
         rises_cons (width + at) (width + count) (width + x) (map (λ p. width + p) xs) (omega arith) (omega arith)
         (let e : width + (x + 1) ≡ width + x + 1 = omega arith in subst (λ h. Rises h (width + count) (map (λ p. width + p) xs)) e (up (x + 1) xs (omega arith) (rises_tail at count x xs r)))
 
-    wider : (low' low'' high' : ℕ) (xs : List ℕ) → low'' ≤ low' → Rises low' high' xs → Rises low'' high' xs
-    wider low' low'' high' xs l r = record { from = λ j m. (let h = r.from j m in omega arith); below = r.below; rise = r.rise }
-
     top : (at : ℕ) → at ≤ width → Rises at (width + count) (map (λ p. width + p) gone)
-    top at l = wider (width + 0) at (width + count) (map (λ p. width + p) gone) (omega arith) (up 0 gone (omega arith) (rises_from count gone high))
+    top at l = rises_wider (width + 0) at (width + count) (map (λ p. width + p) gone) (omega arith) (up 0 gone (omega arith) (rises_from count gone high))
 
     walk : (at : ℕ) (xs : List ℕ) → at ≤ width → Rises at width xs → Rises at (width + count) (xs ++ map (λ p. width + p) gone)
     walk at [] l r = top at l

@@ -1,23 +1,11 @@
 -- The product is linear on each side, and a linear function is known from its values at the eight powers of two.
-use Rattle.std.proofs.Common.{◌≡◌, ℕ, zero, suc, ◌+◌, ◌*◌, ◌/◌, ◌%◌, ◌^◌, ◌<◌, bit_xor, Bool, true, false, cond, eqb, refl, sym, ap, ap₂, ◌∙◌, subst, arith, add-zero, mod-lt, div-add-mod', pow_pos, pow-suc, mul_comm, div-lt_iff_lt-mul, zero-mul, one-mul}
+use Rattle.std.proofs.Common.{◌≡◌, ℕ, zero, suc, ◌+◌, ◌*◌, ◌/◌, ◌%◌, ◌^◌, ◌<◌, bit_xor, Bool, true, false, cond, eqb, refl, sym, ap, ap₂, ◌∙◌, subst, arith, mod-lt, pow_pos, pow-suc, mul_comm, div-lt_iff_lt-mul, zero-mul, one-mul}
 use Rattle.std.specs.Int.{bit_at}
-use Rattle.std.specs.Int.Bits.{xor_assoc, xor_zero_r, xor_self, xor_shifted}
-use Rattle.std.proofs.lemmas.Nat.{xor_comm, xor_lt, xor_block}
+use Rattle.std.specs.Int.Bits.{xor_assoc, xor_zero_r, xor_self}
+use Rattle.std.proofs.lemmas.Nat.{xor_lt}
 use Rattle.std.proofs.lemmas.Nat.Bits.{bit_at_xor, bit_at-lt}
+use Rattle.mf_lemmas.proofs.Numbers.{xor_swap, xor_shl, high_and_rest}
 use Rattle.mf_code.specs.Field.{carryless, remainder, times}
-
--- ---- exclusive or
-
-pub xor_swap : (a b c d : ℕ) → bit_xor (bit_xor a b) (bit_xor c d) ≡ bit_xor (bit_xor a c) (bit_xor b d)
-xor_swap a b c d =
-    xor_assoc a b (bit_xor c d)
-    ∙ ap (bit_xor a) (sym (xor_assoc b c d) ∙ ap (λ (x : ℕ). bit_xor x d) (xor_comm b c) ∙ xor_assoc c b d)
-    ∙ sym (xor_assoc a c (bit_xor b d))
-
-xor_shl : (n a b : ℕ) → bit_xor a b * 2 ^ n ≡ bit_xor (a * 2 ^ n) (b * 2 ^ n)
-xor_shl n a b =
-    sym (add-zero (bit_xor a b * 2 ^ n)) ∙ sym (xor_block n a b 0 0 (pow_pos n) (pow_pos n))
-    ∙ ap₂ bit_xor (add-zero (a * 2 ^ n)) (add-zero (b * 2 ^ n))
 
 -- ---- a function that takes sums to sums
 
@@ -29,10 +17,6 @@ Linear-zero f h = sym (xor_zero_r (f 0)) ∙ ap (bit_xor (f 0)) (sym (xor_self (
 
 pub Linear-after : (f g : ℕ → ℕ) → Linear f → Linear g → Linear (λ x. f (g x))
 Linear-after f g hf hg x y = ap f (hg x y) ∙ hf (g x) (g y)
-
--- a number of n + 1 bits is its highest bit and the rest
-high_and_rest : (n x : ℕ) → bit_xor (x / 2 ^ n * 2 ^ n) (x % 2 ^ n) ≡ x
-high_and_rest n x = xor_shifted (x / 2 ^ n) n (x % 2 ^ n) (mod-lt x (pow_pos n)) ∙ div-add-mod' x (2 ^ n)
 
 top_bit : (n x : ℕ) → x < 2 ^ suc n → x / 2 ^ n < 2
 top_bit n x lt = (div-lt_iff_lt-mul (pow_pos n)).1 (subst (λ (k : ℕ). x < k) (pow-suc 2 n ∙ mul_comm (2 ^ n) 2) lt)

@@ -1,5 +1,6 @@
 -- A system solved for each unknown has the inverse on its right side.
 use Rattle.std.proofs.Common.{◌≡◌, ℕ, ◌+◌, ◌<◌, bit_xor, refl, sym, ap, ap₂, subst, ◌∙◌}
+use Rattle.mf_lemmas.proofs.Numbers.{equal_from_sum, sum_from_equal}
 use Rattle.mf_code.specs.Field.{times}
 use Rattle.mf_code.specs.Sums.{sum_below}
 use Rattle.mf_code.proofs.Sums.{sum_below-same, sum_below-zero}
@@ -7,7 +8,7 @@ use Rattle.mf_matrix.specs.Tables.{IsTable, IsBytes, identity_at, product_at, Gi
 use Rattle.mf_matrix.specs.Elimination.{Solves, SameSolutions, IsSolvedBelow, IsSystemOf}
 use Rattle.mf_field.proofs.FieldLaws.{times-zero}
 use Rattle.mf_matrix.proofs.Linear.{product-applied}
-use Rattle.mf_matrix.proofs.Sums.{identity_at-lt, equal_from_sum, sum_from_equal, identity_sum, sum_identity, joined, joined-lt, sum_joined}
+use Rattle.mf_matrix.proofs.Sums.{identity_at-lt, identity_sum, sum_identity, joined, joined-lt, sum_joined}
 
 -- the values x and y solve the system of a where a x = y
 pub solves_system : (n : ℕ) (a e : ℕ → ℕ → ℕ) (x y : ℕ → ℕ) → IsSystemOf n a e → IsBytes y

@@ -5,6 +5,7 @@ use Rattle.std.proofs.lemmas.Bool.{cases_lt}
 use Rattle.std.proofs.lemmas.Bool.Decides.{nat_tests}
 use Rattle.std.proofs.lemmas.List.{ext_get_or, get_or_past}
 use Rattle.std.proofs.Math.Nat.{eq-or-lt_of_le}
+use Rattle.mf_lemmas.proofs.Numbers.{equal_from_sum, sum_from_equal}
 use Rattle.mf_code.specs.Field.{times}
 use Rattle.mf_code.specs.Sums.{sum_below}
 use Rattle.mf_code.proofs.Sums.{sum_below-same, sum_below-zero}
@@ -13,7 +14,7 @@ use Rattle.mf_matrix.specs.Elimination.{SameSolutions, IsSolvedBelow, IsSystemOf
 use Rattle.mf_code.specs.Rows.{list_of}
 use Rattle.mf_code.proofs.Lists.{length-list_of, list_of_at}
 use Rattle.mf_field.proofs.FieldLaws.{times-lt, times_comm, times_assoc, times-zero, zero-times, times-one, one-times}
-use Rattle.mf_matrix.proofs.Sums.{identity_at-lt, identity_at-other, equal_from_sum, sum_from_equal, identity_sum, joined, joined-lt, sum_joined, sum_up_to}
+use Rattle.mf_matrix.proofs.Sums.{identity_at-lt, identity_at-other, identity_sum, joined, joined-lt, sum_joined, sum_up_to}
 use Rattle.mf_matrix.proofs.Inverses.{solves_system, system_solved, zero_from_inverse}
 
 -- a number is not both one and zero

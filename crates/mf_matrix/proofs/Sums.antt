@@ -1,6 +1,5 @@
 -- Sums of products with the identity, and with a list that ends early.
 use Rattle.std.proofs.Common.{◌≡◌, ◌≢◌, ℕ, ◌+◌, ◌-◌, ◌<◌, inl, inr, cond, ltb, bit_xor, refl, sym, ap, ap₂, subst, ◌∙◌, arith, add-zero}
-use Rattle.std.specs.Int.Bits.{xor_zero_r, xor_zero_l, xor_self, xor_assoc}
 use Rattle.std.proofs.Common.{List, [], ◌∷◌, ◌++◌, length, get_or}
 use Rattle.std.proofs.lemmas.Bool.{cases_lt}
 use Rattle.std.proofs.Common.{◌*◌}
@@ -29,13 +28,6 @@ identity_at-lt i j = elim (eqb_tells i j) [
   | inl t ↦ subst (λ v. v < 256) (sym (identity_at-same i j t.1)) (omega arith)
   | inr o ↦ subst (λ v. v < 256) (sym (identity_at-other i j o.1)) (omega arith)
 ]
-
--- numbers whose sum is zero are equal
-pub equal_from_sum : (a b : ℕ) → bit_xor a b ≡ 0 → a ≡ b
-equal_from_sum a b e = sym (xor_zero_r a) ∙ ap (bit_xor a) (sym (xor_self b)) ∙ sym (xor_assoc a b b) ∙ ap (λ v. bit_xor v b) e ∙ xor_zero_l b
-
-pub sum_from_equal : (a b : ℕ) → a ≡ b → bit_xor a b ≡ 0
-sum_from_equal a b e = ap (λ v. bit_xor v b) e ∙ xor_self b
 
 -- row i of the identity, weighted
 pub identity_sum : (n i : ℕ) (r x : ℕ → ℕ) → i < n → IsBytes x → ((j : ℕ) → j < n → r j ≡ identity_at i j) → sum_below n (λ j. times (r j) (x j)) ≡ x i

@@ -2,8 +2,9 @@
 use Rattle.std.proofs.Common.{◌≡◌, ℕ, ◌+◌, ◌-◌, ◌*◌, ◌<◌, ◌≤◌, min, List, [], length, get_or, All, sym, ap, ◌∙◌, arith, inl, inr, add-mul, mul-le-mul_right}
 use Rattle.std.proofs.lemmas.Bool.{cases_lt}
 use Rattle.std.proofs.lemmas.Grind.{div_ceil_times}
-use Rattle.std.proofs.lemmas.List.{get_or-map, get_or_past}
+use Rattle.std.proofs.lemmas.List.{get_or-map}
 use Rattle.std.proofs.lemmas.List.FromFn.{length-map-range_with_len, get_or-map-range_with_len}
+use Rattle.mf_lemmas.proofs.Lists.{byte_at}
 use Rattle.mf_code.specs.Field.{times, power}
 use Rattle.mf_code.specs.Sums.{sum_below}
 use Rattle.mf_code.specs.Rows.{list_of, column}
@@ -13,13 +14,6 @@ use Rattle.mf_code.proofs.Lists.{list_of-same, length-parity, parity_at}
 use Rattle.mf_field.proofs.Parities.{parity_byte_merging, parity_byte_merging_of}
 use Rattle.mf_code.specs.Stripes.{stripe_count, narrow_parities}
 use Rattle.mf_merge.specs.Merged.{first_length, merged_byte}
-
--- each byte of a file of bytes, and what is past its end
-pub bytes_below : (file : List ℕ) → All (λ b. b < 256) file → (i : ℕ) → get_or file i 0 < 256
-bytes_below file bytes i = elim (cases_lt i (length file)) [
-  | inl inside ↦ bytes i 0 inside
-  | inr past ↦ omega (arith, get_or_past file i 0 past)
-]
 
 module _ (size : ℕ) (file : List ℕ) (point width factor j : ℕ) where
   -- how many of the narrow stripes the file has
@@ -61,10 +55,10 @@ module _ (size : ℕ) (file : List ℕ) (point width factor j : ℕ) where
       (λ b. times (power point (b * width)) (byte b)) (λ b lt. ap (times (power point (b * width))) (narrow_byte b x lt inside)) in
       summed ∙ elim (cases_lt count factor) [
         | inl less ↦
-            sym (parity_byte_merging_of size file point factor width j x count lp (bytes_below file bytes) (omega arith) (narrow_reach some less))
+            sym (parity_byte_merging_of size file point factor width j x count lp (byte_at file bytes) (omega arith) (narrow_reach some less))
         | inr all ↦
             ap (λ (n : ℕ). sum_below n (λ b. times (power point (b * width)) (byte b))) (let e : count ≡ factor = omega arith in e)
-            ∙ sym (parity_byte_merging size file point factor width j x lp (bytes_below file bytes))
+            ∙ sym (parity_byte_merging size file point factor width j x lp (byte_at file bytes))
       ]
 
   -- the same as lists, where there is a narrow stripe

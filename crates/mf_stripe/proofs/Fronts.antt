@@ -3,15 +3,11 @@ use Rattle.std.proofs.Common.{◌≡◌, ℕ, ◌≤◌, List, [], ◌∷◌, le
 use Rattle.std.proofs.lemmas.List.{map-id, length-map, get_or-map}
 use Rattle.std.proofs.lemmas.Simd.{zip2_of_maps}
 use lib.Lanes.{zip2}
+use Rattle.mf_lemmas.proofs.Lists.{map-same}
 use Rattle.mf_code.specs.Rows.{column, weighted_lists}
 use Rattle.mf_code.specs.Sums.{weighted}
 use Rattle.mf_kernel.proofs.Fronts.{front, length-front, front_none, front_all, front_more}
 use Rattle.mf_stripe.specs.Block.{with_columns}
-
--- functions that agree make the same list
-pub map-same : {A B : Type 0} (f g : A → B) → ((x : A) → f x ≡ g x) → (xs : List A) → map f xs ≡ map g xs
-map-same f g same [] = refl
-map-same f g same (x ∷ xs) = ap₂ (λ (y : _) (ys : _). y ∷ ys) (same x) (map-same f g same xs)
 
 module _ (size : ℕ) (pieces : List (List ℕ)) where
   -- the parity of the pieces by a point, in its first n columns

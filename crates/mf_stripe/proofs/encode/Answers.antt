@@ -1,10 +1,11 @@
 use Rattle.std.proofs.Common.{◌≡◌, ℕ, ◌+◌, ◌*◌, ◌<◌, ◌≤◌, min, length, map, ap, ◌∙◌, arith}
 use Rattle.std.proofs.lemmas.List.{length-map, with_items_is}
+use Rattle.mf_lemmas.proofs.Lists.{map-same}
 use Rattle.mf_code.specs.Rows.{weighted_lists}
 use Rattle.mf_code.specs.Chunks.{parity}
 use Rattle.mf_stripe.specs.Block.{rows}
 use Rattle.mf_kernel.proofs.Blocks.{block_begins, blocks_cover}
-use Rattle.mf_stripe.proofs.Fronts.{parity_front, fronts_none, fronts_more, fronts_all, fronts_long, map-same}
+use Rattle.mf_stripe.proofs.Fronts.{parity_front, fronts_none, fronts_more, fronts_all, fronts_long}
 use Rattle.mf_stripe.proofs.Stripes.{weighted_lists_stripe}
 use Rattle.mf_stripe.proofs.encode.Goals as goal
 

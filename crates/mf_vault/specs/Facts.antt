@@ -1,5 +1,5 @@
 -- A file's facts, from its book, its bytes and its lose lines; and what the file machine sees of them.
-use Rattle.std.specs.Prelude.{ℕ, ◌+◌, List, [], ◌∷◌, length, slice_index, Option, Some, None}
+use Rattle.std.specs.Prelude.{ℕ, ◌+◌, ◌-◌, List, [], ◌∷◌, length, slice_index, Option, Some, None}
 use Rattle.mf_code.specs.Chunks.{chunk, parity}
 use Rattle.mf_machine.specs.File.{File, Line, Opening}
 use Rattle.mf_places.specs.declared.losses.LoseLine.{LoseLine}
@@ -20,13 +20,19 @@ cell l bytes (name.Copy c i) = chunk l.chunk bytes i
 cell l bytes (name.Parity width j p) = parity l.chunk bytes (slice_index l.points p) width j
 
 -- what no call of an access changes: what the book lays out, the file's bytes, the lose lines up to the end of the
--- phase, the file at rest from which the phase began, and its age in this phase
+-- phase, the file at rest from which the phase began, the ticks at the file's creation (or, where it rested uncreated,
+-- of this phase), and the ticks of this phase
 pub record Facts : Type 0 where
   pub book : BookFacts
   pub bytes : List ℕ
   pub losses : List LoseLine
   pub opening : Opening
-  pub age : ℕ
+  pub born : ℕ
+  pub now : ℕ
+
+-- the file's age in this phase: 0 where it rested uncreated
+abbrev pub age : Facts → ℕ
+age f = f.now - f.born
 
 -- the cell of a name, its number and its server
 abbrev pub cell_of : Facts → Name → List ℕ

@@ -4,3 +4,4 @@ pub mod Answers
 pub mod May
 pub mod Licence
 pub mod Counting
+pub mod Resting

@@ -1,7 +1,7 @@
 //! One actor's hold on one file.
 ghost use Rattle.std.specs.Prelude.{◌≡◌, ℕ, ◌+◌, ◌<◌, ◌≤◌, List, Option, IfOk};
 ghost use Rattle.mf_machine.specs.Actors.{slot_of};
-ghost use Rattle.mf_vault.specs.Facts.{cell_of, place};
+ghost use Rattle.mf_vault.specs.Facts.{age, cell_of, place};
 ghost use Rattle.mf_vault.specs.Actor as call;
 ghost use Rattle.mf_vault.specs.Actor.{Actor};
 ghost use Rattle.mf_vault.specs.Answers.{Goes};
@@ -28,7 +28,7 @@ pub trait Access {
 
     /// The file's age in this phase, in ticks.
     fn age(&self) -> u64
-        ensures { result ≡ (actor self.now).facts.age };
+        ensures { result ≡ age (actor self.now).facts };
 
     /// The ledger: the chunk operations and closings of this actor, in order, each with its answer.
     fn ledger(&self) -> &[Entry]

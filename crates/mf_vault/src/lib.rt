@@ -5,6 +5,7 @@ mod access;
 mod answers;
 mod fetch;
 mod io;
+mod note;
 
 pub use access::Access;
 pub use answers::{Answer, Entry, Got, Op, Pinned, Rest};
@@ -13,3 +14,4 @@ pub use io::{Io, count_io};
 pub use mf_kernel::{Chunk, Memory};
 pub use mf_machine::{Closed, Slot, State};
 pub use mf_places::{Book, LoseLine, Losses, Name, Servers};
+pub use note::Note;

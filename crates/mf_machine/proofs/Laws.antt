@@ -1,5 +1,5 @@
 -- Each move keeps the rule, and so does every list of them.
-use Rattle.std.proofs.Common.{◌≡◌, ◌≢◌, ℕ, ◌+◌, ◌-◌, ◌<◌, Bool, true, false, cond, eqb, ltb, leb, List, [], ◌∷◌, get_or, set, sym, refl, ap, ◌∙◌, subst, ⊎_elim, inl, inr, arith, length, eq-eqb, ne_eqb, length-set, get_or-set_same, get_or-set_other}
+use Rattle.std.proofs.Common.{◌≡◌, ◌≢◌, ℕ, ◌+◌, ◌-◌, ◌<◌, Bool, true, false, cond, eqb, ltb, leb, List, [], ◌∷◌, get_or, set, sym, refl, ap, ◌∙◌, subst, ⊎_elim, inl, inr, arith, eq-eqb, ne_eqb, get_or-set_same, get_or-set_other}
 use Rattle.std.proofs.lemmas.Bool.{lt-ltb, le-ltb, le-leb, lt-leb}
 use mathlib.Core.Logic.{dite}
 use mathlib.Core.Option.{some}
@@ -23,8 +23,9 @@ use Rattle.mf_machine.specs.Ruled.{Ruled}
 use Rattle.mf_machine.specs.Steps.{MayPin, MayClose, MayBirth, MayTake, MayLose, MayRetake, MayDrop, MayDropAgain, MaySee, MayPublish}
 use Rattle.mf_machine.specs.Steps as row
 use Rattle.mf_machine.specs.Sums.{share_of}
-use Rattle.mf_machine.specs.Worlds.{World, Row, Turn, stays, comes_out, goes_back, read, word_of, actor, Fits, counted, acted, homes_after, spent_view}
-use Rattle.mf_machine.proofs.Lists.{at_read, bit_is, bit_not}
+use Rattle.mf_machine.specs.Worlds.{World, stays, comes_out, read, word_of, actor, Fits, counted, homes_after}
+use Rattle.mf_machine.proofs.Deeds.{here, fits_on}
+use Rattle.mf_machine.proofs.Lists.{bit_is, bit_not}
 use Rattle.mf_machine.proofs.Totals.{total_at}
 use Rattle.mf_machine.proofs.Steps.{ButPins, ButRight, ButNumber, ButName}
 use Rattle.mf_machine.proofs.Numbers as numbers
@@ -39,22 +40,9 @@ use Rattle.mf_machine.proofs.Retakes as retakes
 use Rattle.mf_machine.proofs.Drops as drops
 use Rattle.mf_machine.proofs.Openings.{opens}
 
--- an active actor stands in the list
-pub here : (w : World) (id : ℕ) → Active (actor w id) → get_elem? w.views id ≡ some (actor w id)
-here w id active = at_read w.views id spent_view (λ e. let z = ap share_of e in absurd (omega arith))
-
 -- a fact of the value of a test
 pub picked : (P : Bool → Type 0) (b c : Bool) → b ≡ c → P c → P b
 picked P b c e p = subst P (sym e) p
-
--- a row leaves as many words and slots
-deep_after : (t : Turn) (w : World) (id : ℕ) → length (homes_after t w id) ≡ length w.homes
-deep_after stays w id = refl
-deep_after (comes_out n) w id = length-set w.homes n away
-deep_after (goes_back n) w id = length-set w.homes n (w.hands id)
-
-pub fits_after : (f : File) (r : Row) (x : ℕ) (w : World) (id : ℕ) → Fits f w → Fits f (acted r x w id)
-fits_after f r x w id fits = record { wide = length-set w.words r.word (r.becomes x) ∙ fits.wide; deep = deep_after (r.slot x) w id ∙ fits.deep }
 
 module _ (f : File) (k : Opening) (rest : Rest f k) (w : World) (fits : Fits f w) (r : Ruled f k (read f w)) (id : ℕ)
     (active : Active (actor w id)) where
@@ -352,32 +340,8 @@ module _ (f : File) (k : Opening) (rest : Rest f k) where
   keeps w id (move.join other) may g r = let m = may.1 in seats.joins f k (read f w) id (actor w id) r (here w id m.0) other (actor w other) may.0
       (here w other m.1) m.0 m.1 m.2 m.3 m.4 m.5
 
-  fits_on : (w : World) (id : ℕ) (d : Deed) → Fits f w → Fits f (done f w id d)
-  fits_on w id move.look g = fits_after f row.look_row (word_of w 0) w id g
-  fits_on w id (move.pin slot i) g = fits_after f (row.pin_row slot i) (word_of w (i + 2)) w id g
-  fits_on w id (move.unpin slot i) g = fits_after f (row.unpin_row slot i) (word_of w (i + 2)) w id g
-  fits_on w id (move.close i) g = fits_after f (row.close_row i) (word_of w (i + 2)) w id g
-  fits_on w id move.begin g = fits_after f row.begin_row (word_of w 1) w id g
-  fits_on w id move.end g = fits_after f row.end_row (word_of w 1) w id g
-  fits_on w id (move.publish next) g = fits_after f (row.publish_row next) (word_of w 0) w id g
-  fits_on w id (move.see n) g = fits_after f (row.see_row f n) (word_of w (name_word f n)) w id g
-  fits_on w id (move.take n) g = fits_after f (row.take_row f n) (word_of w (name_word f n)) w id g
-  fits_on w id (move.give n) g = fits_after f (row.give_row f n) (word_of w (name_word f n)) w id g
-  fits_on w id (move.birth n) g = fits_after f (row.birth_row f n) (word_of w (name_word f n)) w id g
-  fits_on w id (move.born n) g = fits_after f (row.born_row f n) (word_of w (name_word f n)) w id g
-  fits_on w id (move.lose n l) g = fits_after f (row.lose_row f n l) (word_of w (name_word f n)) w id g
-  fits_on w id (move.lost n l) g = fits_after f (row.lost_row f n l) (word_of w (name_word f n)) w id g
-  fits_on w id (move.retake n) g = fits_after f (row.retake_row f n) (word_of w (name_word f n)) w id g
-  fits_on w id (move.restored n) g = fits_after f (row.restored_row f n) (word_of w (name_word f n)) w id g
-  fits_on w id (move.drop n) g = fits_after f (row.drop_row f n) (word_of w (name_word f n)) w id g
-  fits_on w id (move.drop_again n) g = fits_after f (row.drop_again_row f (actor w id).inside.tried n) (word_of w (name_word f n)) w id g
-  fits_on w id (move.dropped n) g = fits_after f (row.dropped_row f n) (word_of w (name_word f n)) w id g
-  fits_on w id (move.exchange h) g = record { wide = g.wide; deep = g.deep }
-  fits_on w id move.split g = record { wide = g.wide; deep = g.deep }
-  fits_on w id (move.join other) g = record { wide = g.wide; deep = g.deep }
-
   pub one : (w : World) (m : Move) → May f w m → Good w → Good (after f w m)
-  one w m may g = (fits_on w m.who m.does g.0, keeps w m.who m.does may g.0 g.1)
+  one w m may g = (fits_on f w m.who m.does g.0, keeps w m.who m.does may g.0 g.1)
 
   pub all : (w : World) (ms : List Move) → Runs f w ms → Good w → Good (run f w ms)
   all w [] runs g = g

@@ -19,6 +19,9 @@ pub mod Rules
 pub mod Ends
 pub mod Exhibits
 pub mod Adding
+pub mod Entering
+pub mod Deeds
 pub mod Tells
 pub mod Goes
 pub mod Told
+pub mod Fitting

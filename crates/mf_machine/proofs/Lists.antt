@@ -149,6 +149,16 @@ those_from p (suc n) x h = by (those_from p n x) (p n) refl h
         let u = t.0 in (omega arith, t.1)) l
     by r false e l = let t = r l in let u = t.0 in (omega arith, t.1)
 
+pub those_has : (p : ℕ → Bool) (n x : ℕ) → x < n → p x ≡ true → 0 < times x (those p n)
+those_has p zero x l e = absurd (omega arith)
+those_has p (suc n) x l e = dite (ℕ_discrete x n)
+    (λ d. subst (λ (b : Bool). 0 < times x (cond b (n ∷ those p n) (those p n))) (sym (ap p (sym d) ∙ e)) (let z = bit_is n x (sym d) in omega arith))
+    (λ ne. more (p n) (those p n) (those_has p n x (omega arith) e))
+  where
+    more : (b : Bool) (xs : List ℕ) → 0 < times x xs → 0 < times x (cond b (n ∷ xs) xs)
+    more true xs h = omega arith
+    more false xs h = h
+
 -- a list is cut in two by how often each number stands in it
 pub up_to_is : (c g : ℕ) (xs : List ℕ) → times g (up_to c xs) ≡ min (times g xs) c
 up_to_is c g [] = omega arith

@@ -1,5 +1,6 @@
 -- What is promised of every list of moves from a file at rest.
-use Rattle.std.specs.Prelude.{◌≡◌, ◌≢◌, ◌⊎◌, ◌↔◌, ℕ, ◌+◌, ◌^◌, ◌<◌, ◌≤◌, leb, true, List, [], ◌∷◌, ◌++◌, slice_set}
+use Rattle.std.specs.Prelude.{◌≡◌, ◌≢◌, ◌⊎◌, ◌↔◌, ℕ, ◌+◌, ◌/◌, ◌^◌, ◌<◌, ◌≤◌, leb, true, Option, Some}
+use Rattle.std.specs.Prelude.{List, [], ◌∷◌, ◌++◌, length, slice_set}
 use mathlib.Core.Option.{some}
 use lib.ListN.{get_elem?}
 use Rattle.mf_machine.specs.declared.view.Made.{Made}
@@ -8,10 +9,11 @@ use Rattle.mf_machine.specs.declared.view.Seen.{Seen}
 use Rattle.mf_machine.specs.declared.view.Step.{Step}
 use Rattle.mf_machine.specs.declared.view.View.{View}
 use Rattle.mf_machine.specs.declared.answer.Slot.TheVariants.{Hold, Work}
-use Rattle.mf_machine.specs.Actors.{Among, LacksRight, IsFreeSlot, live, Free}
+use Rattle.mf_machine.specs.Actors.{Among, LacksRight, IsFreeSlot, Active, live, Free}
+use Rattle.mf_machine.specs.Answers.{Answer, number, often, makes, IsChange, Shows, said}
 use Rattle.mf_machine.specs.Counts.{times, losses, lines, foreign, total, all_begun, all_opened}
-use Rattle.mf_machine.specs.File.{File, Opening, State, Holds, HasCell, name_word, removed}
-use Rattle.mf_machine.specs.Kept.{IsActor, IsClosed, IsMetOf, Caused, Kept}
+use Rattle.mf_machine.specs.File.{File, Line, Opening, State, Holds, IsLoseLine, HasCell, name_word, removed}
+use Rattle.mf_machine.specs.Kept.{HasTaken, IsActor, IsClosed, IsMetOf, Caused, Kept}
 use Rattle.mf_machine.specs.Moves.{Move, Deed, by, May, after, Reached}
 use Rattle.mf_machine.specs.Rest.{Rest}
 use Rattle.mf_machine.specs.Ruled.{Ruled}
@@ -19,7 +21,7 @@ use Rattle.mf_machine.specs.Steps.{old_half, new_half, joined}
 use Rattle.mf_machine.specs.Sums.{publishings, closings, loses_by, begun_of, opened_of, lost_bit}
 use Rattle.mf_machine.specs.Words as word
 use Rattle.mf_machine.specs.Words.{number_word, right_word, pins_word, closed_bit, absent, IsLost}
-use Rattle.mf_machine.specs.Worlds.{World, word_of, read, Opens, nothing_made, nothing_met, spent_view}
+use Rattle.mf_machine.specs.Worlds.{World, actor, word_of, read, Opens, nothing_made, nothing_met, spent_view}
 use Rattle.mf_machine.specs.File.Home.{empty}
 use Rattle.mf_machine.specs.Moves as move
 
@@ -52,26 +54,24 @@ pub record RestIsKept : Type 0 where
   pub ends : (f : File) (k : Opening) (s : State) → Kept f k s → ((n : ℕ) → n < f.names → s.name n ≢ word.taken)
       → ((n : ℕ) → n < f.names → s.name n ≢ word.here → s.home n ≡ empty) → Rest f (resting s)
 
--- what the first actor has seen and made, the second one has too
-pub record GoesOn (v u : View) : Type 0 where
-  pub number : v.seen.number ≤ u.seen.number
-  pub shut : (g : ℕ) → times g v.seen.shut ≤ times g u.seen.shut
-  pub born : (n : ℕ) → times n v.seen.born ≤ times n u.seen.born
-  pub gone : (n : ℕ) → times n v.seen.dropped ≤ times n u.seen.dropped
-  pub published : (n : ℕ) → times n v.made.numbers ≤ times n u.made.numbers
-  pub closed : (g : ℕ) → times g v.made.closings ≤ times g u.made.closings
-  pub put : (n : ℕ) → times n v.made.changes.put ≤ times n u.made.changes.put
-  pub lost : (n l : ℕ) → lines n l v.made.changes.lost ≤ lines n l u.made.changes.lost
-  pub restored : (n : ℕ) → times n v.made.changes.restored ≤ times n u.made.changes.restored
-  pub dropped : (n : ℕ) → times n v.made.changes.dropped ≤ times n u.made.changes.dropped
+-- what the first one has seen and made, the second one has too
+pub record GoesOn (s s' : Seen) (m m' : Made) : Type 0 where
+  pub number : s.number ≤ s'.number
+  pub shut : (g : ℕ) → times g s.shut ≤ times g s'.shut
+  pub born : (n : ℕ) → times n s.born ≤ times n s'.born
+  pub dropped : (n : ℕ) → times n s.dropped ≤ times n s'.dropped
+  pub made : (a : Answer) → makes a m ≤ makes a m'
+
+abbrev pub Has : (v u : View) → Type 0
+Has v u = GoesOn v.seen u.seen v.made u.made
 
 -- what an actor has seen and made only grows: after a move it has it still; or the move is a join that took it in, and
 -- the staying actor has it
 abbrev pub OnlyGrows : Type 0
 OnlyGrows = (f : File) (k : Opening) (w : World) (m : Move) → Reached f k w → May f w m
     → (j : ℕ) (v : View) → IsActor (read f w) j v
-    → ((u : View) × IsActor (read f (after f w m)) j u × GoesOn v u)
-    ⊎ ((i : ℕ) × (m ≡ by i (move.join j)) × ((u : View) × IsActor (read f (after f w m)) i u × GoesOn v u))
+    → ((u : View) × IsActor (read f (after f w m)) j u × Has v u)
+    ⊎ ((i : ℕ) × (m ≡ by i (move.join j)) × ((u : View) × IsActor (read f (after f w m)) i u × Has v u))
 
 -- the note of a step on the word i: one step more, this word, and the value that stood there before the step
 abbrev pub Meets : World → ℕ → Step → Step → Type 0
@@ -119,32 +119,19 @@ met_sum h (m ∷ ms) = h m + met_sum h ms
 abbrev pub mets_of : (Met → ℕ) → View → ℕ
 mets_of h v = h v.own + met_sum h v.gone
 
--- Seen has what the answers of a Met show: its number isn't below one looked at; and it has each generation answered
--- Closed (by a close or by a pin answered false), each name put, restored or answered Here or Lost, and each name
--- dropped
-pub record SeenHas (s : Seen) (m : Met) : Type 0 where
-  pub number : (n : ℕ) → 0 < times n m.numbers → n ≤ s.number
-  pub shut : (g : ℕ) → 0 < times g m.closed + times g m.already + times g m.missed → 0 < times g s.shut
-  pub born : (n : ℕ) → 0 < times n m.put + times n m.restored + times n m.here + losses n m.lost → 0 < times n s.born
-  pub dropped : (n : ℕ) → 0 < times n m.dropped → 0 < times n s.dropped
+-- Seen has what the answers of a Met show
+abbrev pub SeenHas : Seen → Met → Type 0
+SeenHas s m = (a : Answer) → 0 < often a m → Shows a s
 
 -- an actor's Made is what its own answers say, and those of the actors that it took in: each closing and change stands
 -- in it exactly as often as in these Mets. A number published was also looked at
 pub record MadeIs (v : View) : Type 0 where
-  pub published : (n : ℕ) → times n v.made.numbers ≤ mets_of (λ m. times n m.numbers) v
-  pub closed : (g : ℕ) → times g v.made.closings ≡ mets_of (λ m. times g m.closed) v
-  pub put : (n : ℕ) → times n v.made.changes.put ≡ mets_of (λ m. times n m.put) v
-  pub lost : (n l : ℕ) → lines n l v.made.changes.lost ≡ mets_of (λ m. lines n l m.made_lost) v
-  pub restored : (n : ℕ) → times n v.made.changes.restored ≡ mets_of (λ m. times n m.restored) v
-  pub dropped : (n : ℕ) → times n v.made.changes.dropped ≡ mets_of (λ m. times n m.dropped) v
+  pub published : (n : ℕ) → times n v.made.numbers ≤ mets_of (often (number n)) v
+  pub changed : (a : Answer) → IsChange a → makes a v.made ≡ mets_of (often a) v
 
 -- the same of one Met alone
-pub record MadeAlone (made : Made) (m : Met) : Type 0 where
-  pub closed : (g : ℕ) → times g made.closings ≡ times g m.closed
-  pub put : (n : ℕ) → times n made.changes.put ≡ times n m.put
-  pub lost : (n l : ℕ) → lines n l made.changes.lost ≡ lines n l m.made_lost
-  pub restored : (n : ℕ) → times n made.changes.restored ≡ times n m.restored
-  pub dropped : (n : ℕ) → times n made.changes.dropped ≡ times n m.dropped
+abbrev pub MadeAlone : Made → Met → Type 0
+MadeAlone made m = (a : Answer) → IsChange a → makes a made ≡ often a m
 
 -- the answers tell what an actor has seen and made. Where it took in nobody, its Made is what its own answers say
 abbrev pub AnswersTell : Type 0
@@ -225,3 +212,67 @@ pub record AddsUp : Type 0 where
   pub join_met : (h : Met → ℕ) (vs : List View) (i j : ℕ) (v u : View) → j ≢ i
       → get_elem? vs i ≡ some v → get_elem? vs j ≡ some u → h nothing_met ≡ 0
       → total (mets_of h) (slice_set (slice_set vs i (joined v u)) j spent_view) ≡ total (mets_of h) vs
+
+-- the Met has one more of this answer, and of every other one as many as before
+abbrev pub Enters : Option Answer → (before after : Met) → Type 0
+Enters a m m' = (b : Answer) → (a ≡ Some b → often b m' ≡ often b m + 1) × (a ≢ Some b → often b m' ≡ often b m)
+
+-- the Mets of an actor that is taken in
+abbrev pub taken_in : World → Deed → List Met
+taken_in w (move.join other) = (actor w other).own ∷ (actor w other).gone
+taken_in w d = []
+
+-- answers are entered: after a move the actor's own Met has one more of the move's answer, and no other change; beside
+-- it stand the Mets of an actor that is taken in; and no other actor's Mets change
+pub record AnswersEntered : Type 0 where
+  pub own : (f : File) (w : World) (m : Move) → May f w m
+      → (v u : View) → IsActor (read f w) m.who v → IsActor (read f (after f w m)) m.who u
+      → Enters (said f w m.who m.does) v.own u.own × (u.gone ≡ v.gone ++ taken_in w m.does)
+  pub others : (f : File) (w : World) (m : Move) → May f w m → (j : ℕ) → j ≢ m.who
+      → (v u : View) → IsActor (read f w) j v → IsActor (read f (after f w m)) j u → 0 < u.share
+      → (u.own ≡ v.own) × (u.gone ≡ v.gone)
+
+-- Seen has all that the resting file holds
+pub record SeesAll (f : File) (k : Opening) (s : Seen) : Type 0 where
+  pub number : s.number ≡ k.number
+  pub shut : (g : ℕ) → g < f.stages → k.closed g ≡ true → Among g s.shut
+  pub born : (n : ℕ) → n < f.names → k.name n ≢ word.unborn → Among n s.born
+  pub dropped : (n : ℕ) → n < f.names → k.name n ≡ word.dropped → Among n s.dropped
+
+-- a new actor has half of the share and all that the old one has seen; it has made and met nothing, and has no pin, no
+-- right and no name Taken
+pub record StartsFrom (v u : View) : Type 0 where
+  pub share : u.share ≡ v.share / 2
+  pub seen : u.seen ≡ v.seen
+  pub made : u.made ≡ nothing_made
+  pub met : (u.own ≡ nothing_met) × (u.gone ≡ [])
+  pub pins : IsFreeSlot Hold u × IsFreeSlot Work u
+  pub right : LacksRight u.build
+  pub inside : Free u
+
+-- Seen is handed on: after a split the new actor stands behind the others and starts from the old one, which keeps what
+-- it has seen, made and met; and the first actor has seen all that the resting file holds
+pub record SeenHandedOn : Type 0 where
+  pub split : (f : File) (w : World) (id : ℕ) (v : View) → May f w (by id move.split) → IsActor (read f w) id v
+      → ((u : View) × IsActor (read f (after f w (by id move.split))) (length w.views) u × StartsFrom v u)
+      × ((u : View) × IsActor (read f (after f w (by id move.split))) id u
+      × (u.share + v.share / 2 ≡ v.share) × (u.seen ≡ v.seen) × (u.made ≡ v.made) × (u.own ≡ v.own) × (u.gone ≡ v.gone))
+  pub first : (f : File) (k : Opening) (w : World) → Opens f k w
+      → (v : View) × IsActor (read f w) 0 v × SeesAll f k v.seen
+
+-- the word of a name fits the step that meets it: a see meets no Dropped name; a take meets Here, Taken, or Lost by a
+-- lose line of the name's server; a birth meets Unborn, a retake Lost; and a return meets Taken
+pub record MeetsFit (f : File) (w : World) (id : ℕ) : Type 0 where
+  pub see : (n : ℕ) → May f w (by id (move.see n)) → (read f w).name n ≢ word.dropped
+  pub take : (n : ℕ) → May f w (by id (move.take n)) → ((read f w).name n ≡ word.here)
+      ⊎ (((read f w).name n ≡ word.taken) ⊎ ((l : ℕ) × ((read f w).name n ≡ word.lost l) × IsLoseLine f n l))
+  pub birth : (n : ℕ) → May f w (by id (move.birth n)) → (read f w).name n ≡ word.unborn
+  pub retake : (n : ℕ) → May f w (by id (move.retake n)) → IsLost ((read f w).name n)
+  pub returns : (n : ℕ) → Active (actor w id) → HasTaken (actor w id) n → (read f w).name n ≡ word.taken
+
+abbrev pub AnswersFit : Type 0
+AnswersFit = (f : File) (k : Opening) (w : World) → Reached f k w → (id : ℕ) → MeetsFit f w id
+
+-- a file at rest still rests where its lose lines stay and others come, as in the next phase
+abbrev pub RestGoesOn : Type 0
+RestGoesOn = (f : File) (k : Opening) (more : List Line) → Rest f k → Rest (record f { losses = f.losses ++ more }) k

@@ -5,6 +5,7 @@ pub mod Actors
 pub mod Worlds
 pub mod Steps
 pub mod Moves
+pub mod Answers
 pub mod Rest
 pub mod Sums
 pub mod Ruled

@@ -1,8 +1,9 @@
 //! The laws. A reached state is what any list of moves of any number of actors, splits and joins included, makes of any
 //! file at rest.
 ghost use Rattle.mf_machine.specs.Exhibits.{EachBreaks, SomeRun};
-ghost use Rattle.mf_machine.specs.Laws.{AddsUp, AnswersTell, CausesLeadBack, LastBringsBack, Law};
-ghost use Rattle.mf_machine.specs.Laws.{NotesTrue, OnlyGrows, PinnedStays, RestIsKept};
+ghost use Rattle.mf_machine.specs.Laws.{AddsUp, AnswersEntered, AnswersFit, AnswersTell, CausesLeadBack};
+ghost use Rattle.mf_machine.specs.Laws.{LastBringsBack, Law, NotesTrue, OnlyGrows, PinnedStays};
+ghost use Rattle.mf_machine.specs.Laws.{RestGoesOn, RestIsKept, SeenHandedOn};
 
 /// The ten rules hold in every reached state.
 pub fn rules_are_kept()
@@ -62,4 +63,26 @@ pub fn notes_are_true()
 /// of the actors that it took in.
 pub fn answers_tell()
     ensures { AnswersTell }
+{}
+
+/// A move enters its answer: the actor's own Met has one more of it and no other change, and no other actor's Mets
+/// change, but that a join keeps those of the actor that it takes in.
+pub fn answers_are_entered()
+    ensures { AnswersEntered }
+{}
+
+/// A split hands on what was seen and nothing else, and the first actor has seen all that the resting file holds.
+pub fn seen_is_handed_on()
+    ensures { SeenHandedOn }
+{}
+
+/// In every reached state the word that a step on a name meets is one that its answer tells of: no see meets Dropped,
+/// a take meets Here, Taken or Lost, a birth Unborn, a retake Lost, and a return Taken.
+pub fn answers_fit()
+    ensures { AnswersFit }
+{}
+
+/// A file at rest still rests when lose lines are added.
+pub fn rest_goes_on()
+    ensures { RestGoesOn }
 {}

@@ -1,0 +1,5 @@
+use Rattle.mf_machine.proofs.Fitting as fits
+use Rattle.mf_machine.proofs.law.answers_fit.Goals as goal
+
+pub returns : goal.returns
+returns c = fits.answers_fit

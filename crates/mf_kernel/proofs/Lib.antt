@@ -1,3 +1,5 @@
 pub mod Zips
 pub mod Blocks
 pub mod Fronts
+pub mod Tables
+pub mod Scaled

@@ -2,7 +2,9 @@
 #![tactic(auto)]
 
 mod chunk;
+mod factor;
 mod kernels;
+mod lanes;
 
 pub use chunk::{Chunk, Memory};
 pub use kernels::{BLOCK, add_into, add_scaled, scale};

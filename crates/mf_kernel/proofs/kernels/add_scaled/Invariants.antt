@@ -1,8 +1,0 @@
--- Below the index the rule holds. From there on nothing has changed.
-use Rattle.std.proofs.Common.{◌≡◌, ℕ, ◌<◌, ◌≤◌, get_or, bit_xor}
-use Rattle.mf_code.specs.Field.{times}
-use Rattle.mf_kernel.proofs.kernels.add_scaled.Given as goal
-
-abbrev pub invariant-loop-i : goal.invariant-loop-i
-invariant-loop-i l =
-    ((k : ℕ) → k < l.i → get_or l.dst k 0 ≡ bit_xor (get_or l.initial.dst k 0) (times l.c (get_or l.src k 0))) × ((k : ℕ) → l.i ≤ k → get_or l.dst k 0 ≡ get_or l.initial.dst k 0)

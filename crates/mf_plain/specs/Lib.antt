@@ -1,0 +1,4 @@
+-- What the public calls promise.
+pub mod Resting
+-- What the fields are.
+pub mod Kept

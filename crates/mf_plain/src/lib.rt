@@ -1,0 +1,6 @@
+//! A file at rest.
+#![tactic(auto)]
+
+mod plain;
+
+pub use plain::Plain;

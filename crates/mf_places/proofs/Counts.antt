@@ -12,7 +12,8 @@ use Rattle.mf_shape.specs.declared.Stage.{Stage}
 use Rattle.mf_shape.specs.Stages.{no_stage, stage_at, width_at, parities_at, copies_at, max_width}
 use Rattle.mf_shape.specs.Chain.{IsChain}
 use Rattle.mf_places.specs.Names.{max_parities}
-use Rattle.mf_places.specs.Rows.{parities_in, parities_below, first_in, IsFirsts}
+use Rattle.mf_places.specs.Numbers.{parities_in, parities_below, first_in}
+use Rattle.mf_places.specs.Rows.{IsFirsts}
 
 -- a stage's parities where it is of the width
 abbrev pub counted : ℕ → Stage → ℕ

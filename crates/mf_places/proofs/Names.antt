@@ -13,7 +13,8 @@ use Rattle.mf_places.specs.declared.Name.{Name}
 use Rattle.mf_places.specs.declared.Name.TheVariants as name
 use Rattle.mf_places.specs.Facts.{BookFacts, chunks_of}
 use Rattle.mf_places.specs.Names.{stripes_of, parities_of, data_names, copies_named, copy_names, stripe_parities, width_parities, parity_names, all_names, count_of, name_at, HasName}
-use Rattle.mf_places.specs.Rows.{parities_in, parities_below, first_in, number_of, IsNumber}
+use Rattle.mf_places.specs.Numbers.{parities_in, parities_below, first_in, number_of}
+use Rattle.mf_places.specs.Rows.{IsNumber}
 use Rattle.mf_places.proofs.Ranges.{flat_map-more, take-range}
 use Rattle.mf_places.proofs.Counts.{max_parities-some, parities_below-grows, parities_below-find}
 

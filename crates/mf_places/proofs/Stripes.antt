@@ -1,5 +1,5 @@
 -- The names of one stripe are what a generation holds in it.
-use Rattle.std.proofs.Common.{◌≡◌, ◌≢◌, ℕ, suc, ◌+◌, ◌-◌, ◌*◌, ◌/◌, ◌<◌, ◌≤◌, ◌⊎◌, min, Bool, true, false, ◌&&◌, eqb, ltb, List, [], ◌++◌, length, map, filter, refl, ap, ◌∙◌, sym, inl, inr, ⊎_elim, arith}
+use Rattle.std.proofs.Common.{◌≡◌, ◌≢◌, ℕ, suc, ◌+◌, ◌-◌, ◌*◌, ◌/◌, ◌<◌, ◌≤◌, ◌⊎◌, min, Bool, true, false, ◌&&◌, eqb, ltb, List, [], ◌++◌, length, map, filter, refl, ap, ap₂, ◌∙◌, sym, inl, inr, ⊎_elim, arith}
 use Rattle.std.proofs.Math.Nat.{mul-le-mul_right, mod-lt, div-add-mod'}
 use Rattle.std.proofs.lemmas.Bool.{cases_lt, cases_eq, and_from, and_left, and_right, lt-ltb, le-ltb, eq-eqb, ne_eqb}
 use Rattle.std.proofs.lemmas.List.{append_assoc}
@@ -11,7 +11,7 @@ use Rattle.mf_places.specs.declared.Name.{Name}
 use Rattle.mf_places.specs.declared.Name.TheVariants as name
 use Rattle.mf_places.specs.Facts.{BookFacts, IsBook, chunks_of}
 use Rattle.mf_places.specs.Names.{stripes_of, parities_of, data_names, copies_named, copy_names, stripe_parities, width_parities, parity_names, all_names}
-use Rattle.mf_places.specs.Generations.{holds_in, stripe_start, stripe_end, data_of_stripe, copy_of_stripe, copies_of_stripe, parities_of_stripe, stripe_names}
+use Rattle.mf_places.specs.Generations.{holds_in, pieces_of, data_of_stripe, copy_of_stripe, copies_of_stripe, parities_of_stripe, stripe_names}
 use Rattle.mf_places.proofs.Counts.{parities_at-le-max}
 use Rattle.mf_places.proofs.Held.{copies_at-le-first}
 use Rattle.mf_places.proofs.Ranges.{flat_map-more}
@@ -56,6 +56,14 @@ quotient-high i j k pos e =
     omega arith
 
 -- ---- which chunks are in a stripe
+
+-- the first chunk of stripe j of generation g
+abbrev stripe_start : BookFacts → ℕ → ℕ → ℕ
+stripe_start b g j = j * width_at b.shape.stages g
+
+-- the first chunk behind it
+abbrev stripe_end : BookFacts → ℕ → ℕ → ℕ
+stripe_end b g j = min ((j + 1) * width_at b.shape.stages g) (chunks_of b)
 
 -- chunk i is one of stripe j
 abbrev in_stripe : BookFacts → ℕ → ℕ → ℕ → Bool
@@ -237,16 +245,12 @@ stripe_names-past b book g j stage past =
 -- ---- a loop that lists a stripe
 
 -- one copy more of each of its chunks
-pub copies-more : (b : BookFacts) (g j c from to : ℕ) (found next : List Name) → from ≡ stripe_start b g j → to ≡ stripe_end b g j
+pub copies-more : (b : BookFacts) (g j c from count : ℕ) (found next : List Name) → from ≡ j * width_at b.shape.stages g → count ≡ pieces_of b g j
     → found ≡ data_of_stripe b g j ++ flat_map (copy_of_stripe b g j) (range_with_len 0 c)
-    → next ≡ found ++ map (λ i. name.Copy c i) (range_with_len from (to - from))
+    → next ≡ found ++ map (λ i. name.Copy c i) (range_with_len from count)
     → next ≡ data_of_stripe b g j ++ flat_map (copy_of_stripe b g j) (range_with_len 0 (c + 1))
-copies-more b g j c from to found next starts ends so_far is =
-    let copy : map (λ i. name.Copy c i) (range_with_len from (to - from)) ≡ copy_of_stripe b g j c =
-    ap (λ k. map (λ i. name.Copy c i) (range_with_len k (to - k))) starts
-    ∙ ap (λ k. map (λ i. name.Copy c i) (range_with_len (stripe_start b g j) (k - stripe_start b g j))) ends in
-    is ∙ ap (λ ys. ys ++ map (λ i. name.Copy c i) (range_with_len from (to - from))) so_far
-    ∙ ap (λ ys. data_of_stripe b g j ++ flat_map (copy_of_stripe b g j) (range_with_len 0 c) ++ ys) copy
+copies-more b g j c from count found next starts counts so_far is =
+    is ∙ ap₂ (λ xs ys. xs ++ ys) so_far (ap₂ (λ k n. map (λ i. name.Copy c i) (range_with_len k n)) starts counts)
     ∙ append_assoc (data_of_stripe b g j) (flat_map (copy_of_stripe b g j) (range_with_len 0 c)) (copy_of_stripe b g j c)
     ∙ ap (λ ys. data_of_stripe b g j ++ ys) (sym (flat_map-more (copy_of_stripe b g j) c))
 

@@ -1,6 +1,7 @@
 -- What a generation holds, and its stripes.
-use Rattle.std.specs.Prelude.{ℕ, ◌+◌, ◌-◌, ◌*◌, ◌/◌, ◌==◌, ◌&&◌, Bool, List, ◌++◌, map, min, nat_lt}
+use Rattle.std.specs.Prelude.{ℕ, ◌/◌, ◌==◌, ◌&&◌, Bool, List, ◌++◌, map, nat_lt}
 use Rattle.std.specs.List.{flat_map, range_with_len}
+use Rattle.mf_code.specs.Stripes.{piece_count, stripe_chunks}
 use Rattle.mf_shape.specs.Stages.{width_at, parities_at, copies_at}
 use Rattle.mf_places.specs.declared.Name.{Name}
 use Rattle.mf_places.specs.declared.Name.TheVariants as name
@@ -24,29 +25,21 @@ stripe_of b g (name.Parity width j p) = j
 abbrev pub holds_in : BookFacts → ℕ → ℕ → Name → Bool
 holds_in b g j x = holds b g x && (stripe_of b g x == j)
 
--- The first chunk of stripe j of generation g.
-abbrev pub stripe_start : BookFacts → ℕ → ℕ → ℕ
-stripe_start b g j = j * width_at b.shape.stages g
-
--- The first chunk behind it.
-abbrev pub stripe_end : BookFacts → ℕ → ℕ → ℕ
-stripe_end b g j = min (stripe_start b g j + width_at b.shape.stages g) (chunks_of b)
-
--- The number of its chunks.
+-- How many chunks stripe j of generation g has.
 abbrev pub pieces_of : BookFacts → ℕ → ℕ → ℕ
-pieces_of b g j = stripe_end b g j - stripe_start b g j
+pieces_of b g j = piece_count b.chunk b.bytes (width_at b.shape.stages g) j
 
--- Its chunks, by their numbers.
-abbrev pub stripe_chunks : BookFacts → ℕ → ℕ → List ℕ
-stripe_chunks b g j = range_with_len (stripe_start b g j) (pieces_of b g j)
+-- Its chunks, by their indices.
+abbrev pub pieces_at : BookFacts → ℕ → ℕ → List ℕ
+pieces_at b g j = stripe_chunks b.chunk b.bytes (width_at b.shape.stages g) j
 
 -- Its data.
 abbrev pub data_of_stripe : BookFacts → ℕ → ℕ → List Name
-data_of_stripe b g j = map (λ i. name.Data i) (stripe_chunks b g j)
+data_of_stripe b g j = map (λ i. name.Data i) (pieces_at b g j)
 
 -- Copy c of each of its chunks.
 abbrev pub copy_of_stripe : BookFacts → ℕ → ℕ → ℕ → List Name
-copy_of_stripe b g j c = map (λ i. name.Copy c i) (stripe_chunks b g j)
+copy_of_stripe b g j c = map (λ i. name.Copy c i) (pieces_at b g j)
 
 -- Its copies, by c and then by chunk.
 abbrev pub copies_of_stripe : BookFacts → ℕ → ℕ → List Name

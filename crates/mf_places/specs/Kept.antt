@@ -1,6 +1,8 @@
 -- What a book keeps beside its facts.
 use Rattle.std.specs.Prelude.{◌≡◌, ◌+◌, ◌≤◌}
 use Rattle.mf_shape.specs.Stages.{max_width, max_copied_width}
+use Rattle.mf_shape.specs.declared.TheConstants.{MAX_WIDTH}
+use Rattle.mf_places.specs.declared.TheConstants.{MAX_CHUNKS}
 use Rattle.mf_places.specs.declared.Book.TheInside.{Inside}
 use Rattle.mf_places.specs.Facts.{BookFacts, IsBook, chunks_of}
 use Rattle.mf_places.specs.Rows.{IsFirsts}
@@ -22,6 +24,6 @@ pub record IsKept (b : Inside) : Type 0 where
   pub widest : b.widest ≡ max_width b.shape.stages
   pub copied : b.copied ≡ max_copied_width b.shape.stages
   pub firsts : IsFirsts b.chunks b.shape.stages (b.widest + 2) b.firsts.items
-  pub short : b.chunks ≤ 1024
-  pub wide : (1 ≤ b.widest) × (b.widest ≤ 64)
-  pub thin : b.copied ≤ 64
+  pub short : b.chunks ≤ MAX_CHUNKS
+  pub wide : (1 ≤ b.widest) × (b.widest ≤ MAX_WIDTH)
+  pub thin : b.copied ≤ MAX_WIDTH

@@ -1,6 +1,7 @@
 -- What the public calls promise.
 pub mod Facts
 pub mod Names
+pub mod Numbers
 pub mod Generations
 pub mod Placement
 pub mod Servers

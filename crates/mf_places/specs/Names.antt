@@ -1,7 +1,7 @@
 -- The names of a file's chunks, in their order. Width w has the parities of stripe 0, then of stripe 1, and so on.
 use Rattle.std.specs.Prelude.{ℕ, ◌+◌, ◌<◌, ◌==◌, max, List, [], ◌∷◌, ◌++◌, length, map, if◌then◌else◌, slice_index_or}
-use Rattle.std.specs.Int.{div_ceil}
 use Rattle.std.specs.List.{flat_map, range_with_len}
+use Rattle.mf_code.specs.Stripes.{stripe_count}
 use Rattle.mf_shape.specs.declared.Stage.{Stage}
 use Rattle.mf_shape.specs.Stages.{copies_at, max_width}
 use Rattle.mf_places.specs.declared.Name.{Name}
@@ -10,7 +10,7 @@ use Rattle.mf_places.specs.Facts.{BookFacts, chunks_of}
 
 -- How many stripes of this width the file's chunks make.
 abbrev pub stripes_of : BookFacts → ℕ → ℕ
-stripes_of b width = div_ceil (chunks_of b) width
+stripes_of b width = stripe_count b.chunk b.bytes width
 
 -- The greatest number of parities among the stages of a width, or 0 where there is none.
 abbrev pub max_parities : ℕ → List Stage → ℕ

@@ -3,13 +3,14 @@
 
 ghost use Rattle.std.specs.Prelude.{◌≡◌, ℕ, ◌+◌, ◌*◌, ◌^◌, ◌<◌, ◌≤◌, length, filter, IsTrue};
 ghost use Rattle.std.specs.Prelude.{IfOk, IfNone, IfSome, OnSome, Some};
-ghost use Rattle.std.specs.Int.{div_ceil};
+ghost use Rattle.mf_code.specs.Chunks.{chunk_count};
 ghost use Rattle.mf_shape.specs.Stages.{stage_at, width_at, max_width, tolerance_at};
 ghost use Rattle.mf_places.specs.Facts.{HasPoints, IsBook, chunks_of};
 ghost use Rattle.mf_places.specs.Names.{HasName, stripes_of, parities_of, count_of, name_at};
 ghost use Rattle.mf_places.specs.Generations.{holds, stripe_of, pieces_of};
 ghost use Rattle.mf_places.specs.Placement.{IsApart, column_of, server_of};
-ghost use Rattle.mf_places.specs.Rows.{first_in, number_of, IsNumber};
+ghost use Rattle.mf_places.specs.Numbers.{first_in, number_of};
+ghost use Rattle.mf_places.specs.Rows.{IsNumber};
 
 mod lists;
 mod losses;
@@ -17,12 +18,21 @@ mod rows;
 mod servers;
 
 pub use losses::{LoseLine, Losses};
-use mf_shape::{Shape, Stage};
+use mf_shape::{MAX_COPIES, MAX_PARITIES, MAX_WIDTH, Shape, Stage};
 use rows::{first_numbers, greatest_parities};
 pub use servers::Servers;
 pub use std::alloc::AllocError as Memory;
 use std::alloc::Global;
 use std::marker::Model;
+
+/// The greatest number of bytes of a chunk.
+pub const MAX_CHUNK: u32 = 65_536;
+/// The greatest number of files, which are numbered from 0.
+pub const MAX_FILES: u32 = 128;
+/// The greatest number of bytes of a file.
+pub const MAX_LENGTH: u32 = 1_048_576;
+/// The greatest number of chunks of a file.
+pub const MAX_CHUNKS: u32 = 1_024;
 
 /// The name of one chunk of a file.
 #[derive(Clone, Copy, Debug, PartialEq, Eq)]
@@ -80,10 +90,10 @@ impl Book {
         length: u32,
     ) -> Result<Book, Memory>
         requires points { HasPoints shape.now.stages points.now }
-        requires chunk { (1 ≤ chunk) × (chunk ≤ 65536) }
-        requires file { file < 128 }
-        requires length { length ≤ 1048576 }
-        requires chunks { div_ceil length chunk ≤ 1024 }
+        requires chunk { (1 ≤ chunk) × (chunk ≤ MAX_CHUNK) }
+        requires file { file < MAX_FILES }
+        requires length { length ≤ MAX_LENGTH }
+        requires chunks { chunk_count chunk length ≤ MAX_CHUNKS }
         ensures { IfOk result (λ book. book ≡ record {
           shape = shape.now;
           points = points.now;
@@ -262,9 +272,9 @@ impl Book {
     fn stage(&self, g: u32) -> Stage
         requires { g < length self.now.shape.stages }
         ensures value { result ≡ stage_at self.now.shape.stages g }
-        ensures width { (1 ≤ result.width) × (result.width ≤ 64) }
-        ensures parities { result.parities ≤ 4 }
-        ensures copies { result.copies ≤ 2 }
+        ensures width { (1 ≤ result.width) × (result.width ≤ MAX_WIDTH) }
+        ensures parities { result.parities ≤ MAX_PARITIES }
+        ensures copies { result.copies ≤ MAX_COPIES }
         ensures kept { IsBook self.now }
     {
         self.shape.stages()[g as usize]
@@ -283,7 +293,7 @@ impl Book {
     // How many parities a stripe of the width has.
     fn parities(&self, width: u32) -> u32
         ensures value { result ≡ parities_of self.now width }
-        ensures bound { result ≤ 4 }
+        ensures bound { result ≤ MAX_PARITIES }
     {
         greatest_parities(self.shape.stages(), width)
     }
@@ -292,7 +302,7 @@ impl Book {
     fn column(&self, name: Name) -> u32
         requires { HasName self.now name }
         ensures value { result ≡ column_of self.now name }
-        ensures bound { result ≤ 68 }
+        ensures bound { result ≤ MAX_WIDTH + MAX_PARITIES }
     {
         match name {
             Name::Data(i) => i % self.widest,

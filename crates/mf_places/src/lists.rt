@@ -48,7 +48,7 @@ impl Book {
             return Ok(found);
         }
         let from = stripe * stage.width;
-        let to = (from + stage.width).min(self.chunks);
+        let to = from + self.pieces(g, stripe);
         push_data(&mut found, from, to)?;
         for c in 0..stage.copies {
             push_copies(&mut found, c, from, to)?;

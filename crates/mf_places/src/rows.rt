@@ -2,9 +2,11 @@
 ghost use Rattle.std.specs.Prelude.{◌≡◌, ℕ, ◌+◌, ◌*◌, ◌<◌, ◌≤◌, length, IfOk};
 ghost use Rattle.mf_shape.specs.Chain.{IsChain};
 ghost use Rattle.mf_places.specs.Names.{max_parities};
-ghost use Rattle.mf_places.specs.Rows.{parities_in, IsFirsts};
+ghost use Rattle.mf_places.specs.Numbers.{parities_in};
+ghost use Rattle.mf_places.specs.Rows.{IsFirsts};
 
-use mf_shape::Stage;
+use crate::MAX_CHUNKS;
+use mf_shape::{MAX_PARITIES, MAX_WIDTH, Stage};
 use std::alloc::{AllocError, Global};
 
 /// The greatest number of parities among the stages of a width.
@@ -26,9 +28,9 @@ pub fn greatest_parities(stages: &[Stage], width: u32) -> u32
 // How many parities there are at a width.
 fn parities_at(stages: &[Stage], chunks: u32, width: u32) -> u32
     requires chain { IsChain stages.now }
-    requires chunks { chunks ≤ 1024 }
+    requires chunks { chunks ≤ MAX_CHUNKS }
     ensures value { result ≡ parities_in chunks stages.now width }
-    ensures bound { result ≤ 4096 }
+    ensures bound { result ≤ MAX_CHUNKS * MAX_PARITIES }
 {
     let parities = greatest_parities(stages, width);
     if parities == 0 {
@@ -45,8 +47,8 @@ pub fn first_numbers(
     widest: u32,
 ) -> Result<Vec<u32>, AllocError>
     requires chain { IsChain stages.now }
-    requires chunks { chunks ≤ 1024 }
-    requires widest { widest ≤ 64 }
+    requires chunks { chunks ≤ MAX_CHUNKS }
+    requires widest { widest ≤ MAX_WIDTH }
     ensures { IfOk result (λ firsts. IsFirsts chunks stages.now (widest + 2) firsts.items) }
 {
     let mut firsts = Vec::with_capacity(alloc, widest as usize + 2)?;

@@ -4,6 +4,7 @@ ghost use Rattle.std.specs.List.Sorted.{IsStrictlyIncreasing};
 ghost use Rattle.mf_places.specs.Servers.{IsIn, no_servers, with_server, set_of, servers_of};
 
 use crate::Memory;
+use mf_shape::MAX_SERVERS;
 use std::alloc::Global;
 
 /// A set of servers: bit s stands for server s. A server above 127 is in no set.
@@ -25,7 +26,7 @@ impl Servers {
     pub fn of(servers: &[u32]) -> Servers
         ensures value { result ≡ set_of servers.now }
         ensures members { (server : ℕ) → IsIn result server
-            ↔ ((server < 128) × Contains servers.now server) }
+            ↔ ((server < MAX_SERVERS) × Contains servers.now server) }
     {
         let mut set = Servers::none();
         for server in servers {
@@ -38,7 +39,7 @@ impl Servers {
     pub fn has(self, server: u32) -> bool
         ensures { IsTrue result ↔ IsIn self server }
     {
-        server < 128 && (self.bits >> server) & 1 == 1
+        server < MAX_SERVERS && (self.bits >> server) & 1 == 1
     }
 
     /// The servers of the set, ascending. The only error is want of memory.
@@ -50,7 +51,7 @@ impl Servers {
         ensures back { IfOk result (λ servers. set_of servers.items ≡ self) }
     {
         let mut servers = Vec::with_capacity(alloc, self.bits.count_ones() as usize)?;
-        for server in 0..128 {
+        for server in 0..MAX_SERVERS {
             if self.has(server) {
                 servers.push(server)?;
             }
@@ -62,7 +63,7 @@ impl Servers {
     fn with(self, server: u32) -> Servers
         ensures { result ≡ with_server self server }
     {
-        if server < 128 {
+        if server < MAX_SERVERS {
             Servers {
                 bits: self.bits | 1 << server,
             }

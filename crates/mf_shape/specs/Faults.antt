@@ -3,6 +3,7 @@ use Rattle.std.specs.Prelude.{◌≡◌, ℕ, ◌-◌, ◌<◌, ◌⊎◌, List,
 use Rattle.mf_shape.specs.declared.Stage.{Stage}
 use Rattle.mf_shape.specs.declared.ShapeFault.{ShapeFault}
 use Rattle.mf_shape.specs.declared.ShapeFault.TheVariants as fault
+use Rattle.mf_shape.specs.declared.TheConstants.{MAX_STAGES}
 use Rattle.mf_shape.specs.Stages.{stage_at, columns}
 use Rattle.mf_shape.specs.Chain.{HasWidth, HasParities, HasCopies, MultipliesWidth, KeepsParities, KeepsCopies}
 use Rattle.mf_shape.specs.Chain.{FitsParities, FitsCopies, FitsServers}
@@ -18,7 +19,7 @@ BreaksStep stages Rule g = (g < length stages) × (0 < g) × ¬ Rule (stage_at s
 -- where a fault comes. Want of memory may come at any chain
 abbrev pub Comes : List Stage → ℕ → ShapeFault → Type 0
 Comes stages servers fault.NoStage = length stages < 1
-Comes stages servers fault.TooManyStages = 4 < length stages
+Comes stages servers fault.TooManyStages = MAX_STAGES < length stages
 Comes stages servers (fault.Width g) = Breaks stages HasWidth g
 Comes stages servers (fault.Parities g) = Breaks stages HasParities g
 Comes stages servers (fault.Copies g) = Breaks stages HasCopies g
@@ -30,39 +31,39 @@ Comes stages servers fault.CopiesDontFit = ¬ FitsCopies stages
 Comes stages servers (fault.Servers n) = (n ≡ columns stages) × ¬ FitsServers stages servers
 Comes stages servers fault.Memory = Unit {0}
 
--- the place of a fault's kind in the order in which the kinds are tried
-abbrev pub kind_of : ShapeFault → ℕ
-kind_of fault.NoStage = 0
-kind_of fault.TooManyStages = 1
-kind_of (fault.Width g) = 2
-kind_of (fault.Parities g) = 3
-kind_of (fault.Copies g) = 4
-kind_of (fault.NotMultiple g) = 5
-kind_of (fault.ParitiesGrow g) = 6
-kind_of (fault.CopiesGrow g) = 7
-kind_of (fault.ParitiesOverWidth g) = 8
-kind_of fault.CopiesDontFit = 9
-kind_of (fault.Servers n) = 10
-kind_of fault.Memory = 11
+-- the rank of a fault's kind: the kinds are tried by rank, the least first
+abbrev pub rank_of : ShapeFault → ℕ
+rank_of fault.NoStage = 0
+rank_of fault.TooManyStages = 1
+rank_of (fault.Width g) = 2
+rank_of (fault.Parities g) = 3
+rank_of (fault.Copies g) = 4
+rank_of (fault.NotMultiple g) = 5
+rank_of (fault.ParitiesGrow g) = 6
+rank_of (fault.CopiesGrow g) = 7
+rank_of (fault.ParitiesOverWidth g) = 8
+rank_of fault.CopiesDontFit = 9
+rank_of (fault.Servers n) = 10
+rank_of fault.Memory = 11
 
--- the number that a fault names: a stage's number, or the servers that are needed
-abbrev pub number_of : ShapeFault → ℕ
-number_of fault.NoStage = 0
-number_of fault.TooManyStages = 0
-number_of (fault.Width g) = g
-number_of (fault.Parities g) = g
-number_of (fault.Copies g) = g
-number_of (fault.NotMultiple g) = g
-number_of (fault.ParitiesGrow g) = g
-number_of (fault.CopiesGrow g) = g
-number_of (fault.ParitiesOverWidth g) = g
-number_of fault.CopiesDontFit = 0
-number_of (fault.Servers n) = n
-number_of fault.Memory = 0
+-- the number that a fault says: a stage's, or how many servers are needed
+abbrev pub said_by : ShapeFault → ℕ
+said_by fault.NoStage = 0
+said_by fault.TooManyStages = 0
+said_by (fault.Width g) = g
+said_by (fault.Parities g) = g
+said_by (fault.Copies g) = g
+said_by (fault.NotMultiple g) = g
+said_by (fault.ParitiesGrow g) = g
+said_by (fault.CopiesGrow g) = g
+said_by (fault.ParitiesOverWidth g) = g
+said_by fault.CopiesDontFit = 0
+said_by (fault.Servers n) = n
+said_by fault.Memory = 0
 
--- a fault is tried before another: its kind is, or it is of the same kind at a lesser stage
+-- a fault is tried before another: its kind is, or it is of the same kind and says a lesser number
 abbrev pub IsBefore : ShapeFault → ShapeFault → Type 0
-IsBefore one other = (kind_of one < kind_of other) ⊎ ((kind_of one ≡ kind_of other) × (number_of one < number_of other))
+IsBefore one other = (rank_of one < rank_of other) ⊎ ((rank_of one ≡ rank_of other) × (said_by one < said_by other))
 
 -- a fault comes, and none that is tried before it does
 pub record IsFirst (stages : List Stage) (servers : ℕ) (first : ShapeFault) : Type 0 where

@@ -1,4 +1,6 @@
+-- What the public calls promise.
 pub mod Stages
 pub mod Chain
 pub mod Faults
+-- Words of private functions.
 pub mod Rules

@@ -13,8 +13,19 @@ use std::alloc::{AllocError, Global};
 use std::clone::Clone;
 use std::marker::Model;
 
-/// One layout in a file's life: stripes of `width` chunks with `parities` parity chunks each, and
-/// `copies` further copies of each chunk.
+/// The greatest number of stages of a chain.
+pub const MAX_STAGES: usize = 4;
+/// The greatest width of a stage.
+pub const MAX_WIDTH: u32 = 64;
+/// The greatest number of parities of a stage.
+pub const MAX_PARITIES: u32 = 4;
+/// The greatest number of further copies of a stage.
+pub const MAX_COPIES: u32 = 2;
+/// The greatest number of servers.
+pub const MAX_SERVERS: u32 = 128;
+
+/// One stage of a file's life: stripes of `width` chunks with `parities` parities each, and `copies`
+/// further copies of each chunk.
 #[derive(Clone, Copy, Debug, PartialEq, Eq)]
 pub struct Stage {
     pub width: u32,

@@ -7,6 +7,7 @@ ghost use Rattle.mf_shape.specs.Faults.{IsFirst};
 ghost use Rattle.mf_shape.specs.Rules.{KeepsLimit, KeepsStep, KeepsLimitAt, KeepsStepAt};
 ghost use Rattle.mf_shape.specs.Rules.{FailsFirst, EachStage};
 
+use crate::{MAX_COPIES, MAX_PARITIES, MAX_SERVERS, MAX_STAGES, MAX_WIDTH};
 use crate::{ShapeFault, Stage};
 
 /// A limit of one stage.
@@ -22,9 +23,9 @@ impl Limit {
         ensures { IsTrue result ↔ KeepsLimit self stage }
     {
         match self {
-            Limit::Width => 1 <= stage.width && stage.width <= 64,
-            Limit::Parities => 1 <= stage.parities && stage.parities <= 4,
-            Limit::Copies => stage.copies <= 2,
+            Limit::Width => 1 <= stage.width && stage.width <= MAX_WIDTH,
+            Limit::Parities => 1 <= stage.parities && stage.parities <= MAX_PARITIES,
+            Limit::Copies => stage.copies <= MAX_COPIES,
         }
     }
 }
@@ -53,7 +54,7 @@ impl Step {
 
 // The least stage that breaks the limit.
 fn first_over(stages: &[Stage], limit: Limit) -> Option<u32>
-    requires { length stages.now ≤ 4 }
+    requires { length stages.now ≤ MAX_STAGES }
     ensures { MatchOption result (EachStage stages.now (KeepsLimitAt stages.now limit))
         (FailsFirst stages.now (KeepsLimitAt stages.now limit)) }
 {
@@ -67,7 +68,7 @@ fn first_over(stages: &[Stage], limit: Limit) -> Option<u32>
 
 // The least stage that the step before it leads to against the rule.
 fn first_misstep(stages: &[Stage], step: Step) -> Option<u32>
-    requires { length stages.now ≤ 4 }
+    requires { length stages.now ≤ MAX_STAGES }
     ensures { MatchOption result (EachStage stages.now (KeepsStepAt stages.now step))
         (FailsFirst stages.now (KeepsStepAt stages.now step)) }
 {
@@ -115,7 +116,7 @@ fn first_misfit(stages: &[Stage], servers: u32) -> Option<ShapeFault>
         return Some(ShapeFault::CopiesDontFit);
     }
     let needed = width + first.parities;
-    if servers < needed || 128 < servers {
+    if servers < needed || MAX_SERVERS < servers {
         return Some(ShapeFault::Servers(needed));
     }
     None
@@ -129,7 +130,7 @@ pub fn first_fault(stages: &[Stage], servers: u32) -> Option<ShapeFault>
     if stages.is_empty() {
         return Some(ShapeFault::NoStage);
     }
-    if 4 < stages.len() {
+    if MAX_STAGES < stages.len() {
         return Some(ShapeFault::TooManyStages);
     }
     if let Some(g) = first_over(stages, Limit::Width) {

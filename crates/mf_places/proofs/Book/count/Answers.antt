@@ -1,7 +1,7 @@
 use Rattle.std.proofs.Common.{◌≡◌, ◌+◌, ap, sym, ◌∙◌, arith}
 use Rattle.mf_shape.specs.Stages.{max_width}
 use Rattle.mf_places.specs.Facts.{BookFacts, chunks_of}
-use Rattle.mf_places.specs.Rows.{first_in}
+use Rattle.mf_places.specs.Numbers.{first_in}
 use Rattle.mf_places.proofs.Names.{count_of-is}
 use Rattle.mf_places.proofs.Book.count.Goals as goal
 

@@ -1,9 +1,8 @@
-use Rattle.std.proofs.Common.{◌≡◌, ◌+◌, ◌*◌, ◌<◌, min, ap, sym, ◌∙◌, arith}
+use Rattle.std.proofs.Common.{◌≡◌, ◌+◌, ◌-◌, ◌*◌, ◌<◌, ap, sym, ◌∙◌, arith}
 use Rattle.mf_shape.specs.declared.Stage.{Stage}
 use Rattle.mf_shape.specs.Stages.{width_at, parities_at, copies_at}
-use Rattle.mf_places.specs.Facts.{chunks_of}
 use Rattle.mf_places.specs.Names.{stripes_of}
-use Rattle.mf_places.specs.Generations.{holds_in, stripe_start, stripe_end, stripe_names}
+use Rattle.mf_places.specs.Generations.{holds_in, pieces_of, stripe_names}
 use Rattle.mf_places.proofs.Stripes.{stripe_names-is, stripe_names-past, stripe_names-made, copies-more}
 use Rattle.mf_places.proofs.Names.{All-sublist}
 use Rattle.mf_places.proofs.Book.names_of.Goals as goal
@@ -21,12 +20,11 @@ returns-then-stripes-stripe-clause-had c =
 pub loop-c-preserved : goal.loop-c-preserved
 loop-c-preserved c =
     let b = c.args.self.now in
-    let k = c.stage-stage.result.width in
-    let width : k ≡ width_at b.shape.stages c.args.g = ap (λ (s : Stage). s.width) c.stage-stage.ensures.value in
-    let starts : c.args.stripe * k ≡ stripe_start b c.args.g c.args.stripe = ap (λ i. c.args.stripe * i) width in
-    let chunks : c.self.inside.chunks ≡ chunks_of b = c.self.invariant.chunks ∙ ap chunks_of c.self.view_is in
-    let ends : c.min-to.result ≡ stripe_end b c.args.g c.args.stripe = c.min-to.ensures ∙ ap (λ n. min (c.args.stripe * k + k) n) chunks ∙ ap (λ i. min (c.args.stripe * i + i) (chunks_of b)) width in
-    copies-more b c.args.g c.args.stripe c.loop-c.c (c.args.stripe * k) c.min-to.result c.loop-c.found.items c.push_copies.new.found.items starts ends c.loop-c.invariant c.in_ok-push_copies.ensures
+    let width : c.stage-stage.result.width ≡ width_at b.shape.stages c.args.g = ap (λ (s : Stage). s.width) c.stage-stage.ensures.value in
+    let from = c.args.stripe * c.stage-stage.result.width in
+    let starts : from ≡ c.args.stripe * width_at b.shape.stages c.args.g = ap (λ i. c.args.stripe * i) width in
+    let count : from + c.pieces.result - from ≡ pieces_of b c.args.g c.args.stripe = omega (arith, c.pieces.ensures.value) in
+    copies-more b c.args.g c.args.stripe c.loop-c.c from (from + c.pieces.result - from) c.loop-c.found.items c.push_copies.new.found.items starts count c.loop-c.invariant c.in_ok-push_copies.ensures
 
 pub returns-clause-parts : goal.returns-clause-parts
 returns-clause-parts c =

@@ -4,7 +4,7 @@ use Rattle.mf_shape.specs.Stages.{max_width}
 use Rattle.mf_shape.proofs.Widths.{max_width-le-limit}
 use Rattle.mf_places.specs.Facts.{chunks_of}
 use Rattle.mf_places.specs.Names.{stripes_of, parities_of}
-use Rattle.mf_places.specs.Rows.{first_in}
+use Rattle.mf_places.specs.Numbers.{first_in}
 use Rattle.mf_places.proofs.Counts.{first_in-more, parity-place}
 use Rattle.mf_places.proofs.Names.{count_of-is}
 use Rattle.mf_places.proofs.Book.parity_name.Goals as goal

@@ -1,7 +1,7 @@
 use Rattle.std.proofs.Common.{◌+◌, ◌-◌, ◌≤◌}
 use Rattle.mf_shape.specs.Stages.{max_width}
 use Rattle.mf_places.specs.Facts.{chunks_of}
-use Rattle.mf_places.specs.Rows.{first_in}
+use Rattle.mf_places.specs.Numbers.{first_in}
 use Rattle.mf_places.proofs.Book.parity_name.Given as goal
 
 abbrev pub invariant-loop-width : goal.invariant-loop-width

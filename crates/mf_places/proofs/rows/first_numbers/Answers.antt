@@ -1,5 +1,6 @@
 use Rattle.std.proofs.Common.{◌≡◌, ◌+◌, ◌++◌, ◌∷◌, [], sym, subst, arith}
-use Rattle.mf_places.specs.Rows.{first_in, IsFirsts}
+use Rattle.mf_places.specs.Numbers.{first_in}
+use Rattle.mf_places.specs.Rows.{IsFirsts}
 use Rattle.mf_places.proofs.Counts.{first_in-more, first_in-le, IsFirsts-more}
 use Rattle.mf_places.proofs.rows.first_numbers.Goals as goal
 

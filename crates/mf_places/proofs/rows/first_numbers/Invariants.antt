@@ -1,5 +1,6 @@
 use Rattle.std.proofs.Common.{◌≡◌, ◌+◌}
-use Rattle.mf_places.specs.Rows.{first_in, IsFirsts}
+use Rattle.mf_places.specs.Numbers.{first_in}
+use Rattle.mf_places.specs.Rows.{IsFirsts}
 use Rattle.mf_places.proofs.rows.first_numbers.Given as goal
 
 abbrev pub invariant-loop-width : goal.invariant-loop-width

@@ -9,7 +9,7 @@ use Rattle.mf_places.specs.Facts.{BookFacts}
 use Rattle.mf_places.specs.Names.{count_of, name_at}
 use Rattle.mf_places.specs.Generations.{holds}
 use Rattle.mf_places.specs.Placement.{server_of}
-use Rattle.mf_places.specs.Rows.{number_of}
+use Rattle.mf_places.specs.Numbers.{number_of}
 
 -- *Cell*: what a name stands for. Data and copies are chunks of the file, and a parity is the parity by its point of
 -- its

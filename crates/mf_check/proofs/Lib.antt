@@ -2,3 +2,4 @@ pub mod Orders
 pub mod Shifts
 pub mod Parts
 pub mod Stages
+pub mod OneFault

@@ -5,7 +5,8 @@ use Rattle.std.proofs.Common.{◌-◌, Result, Ok, Err, IfOk, take}
 use Rattle.std.proofs.lemmas.List.{take_at, ext_get_or, length_push, get_or_append_left, get_or_push, get_or_default}
 use Rattle.std.proofs.lemmas.List.Kept.{AllPairs-from_increasing}
 use Rattle.mf_code.specs.Decodable.{IsPlaceSet, IsDecodableAt}
-use Rattle.mf_check.specs.Sets.{IsBefore, SetAnswer, IsFront, Continues, AllDecodable, IsFirstUndecodable, SearchAnswer}
+use Rattle.mf_check.specs.Sets.{IsBefore}
+use Rattle.mf_check.specs.Search.{SetAnswer, IsFront, Continues, AllDecodable, IsFirstUndecodable, SearchAnswer}
 
 -- one number more
 pushed_at : (p : List ℕ) (x : ℕ) → get_or (p ++ x ∷ []) (length p) 0 ≡ x

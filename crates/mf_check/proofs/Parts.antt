@@ -1,14 +1,12 @@
 -- The parts of a set of places, and the matrix of its erasure.
-use Rattle.std.proofs.Common.{◌≡◌, ◌≢◌, ℕ, suc, ◌+◌, ◌-◌, ◌*◌, ◌<◌, ◌≤◌, inl, inr, cond, eqb, List, [], ◌∷◌, ◌++◌, length, map, take, drop, get_or, refl, sym, ap, ap₂, subst, ◌∙◌, arith, append_assoc, append-nil}
+use Rattle.std.proofs.Common.{◌≡◌, ◌≢◌, ℕ, suc, ◌+◌, ◌-◌, ◌<◌, ◌≤◌, inl, inr, cond, eqb, List, [], ◌∷◌, ◌++◌, length, map, take, drop, get_or, refl, sym, ap, ap₂, subst, ◌∙◌, arith, append_assoc, append-nil}
 use Rattle.std.proofs.lemmas.Bool.{cases_lt}
 use Rattle.std.proofs.lemmas.Bool.Decides.{eqb_tells}
 use Rattle.std.proofs.lemmas.List.{take_at, drop_at, get_or_append_left, get_or-append-add, drop_more, drop_all, get_or-map}
 use Rattle.mf_code.specs.Decodable.{IsPlaceSet}
-use Rattle.mf_erasure.specs.Erasure.{entry, others_from, places_of, Splits}
+use Rattle.mf_erasure.specs.Erasure.{others_from, places_of, Splits}
 use Rattle.mf_erasure.proofs.Places.{erasure_of_set, length-places_of}
-use Rattle.mf_matrix.specs.Matrix.{Grid}
-use Rattle.mf_matrix.specs.Matrix.{entry as cell}
-use Rattle.mf_check.specs.Sets.{IsDataFront}
+use Rattle.mf_check.specs.Search.{IsDataFront}
 
 -- the parities of the places from `next` on
 abbrev pub gone_from : ℕ → ℕ → List ℕ → List ℕ
@@ -120,13 +118,3 @@ all_kept width p count next places kept whole le so_far =
     sym (append-nil kept)
     ∙ ap (λ (n : ℕ). kept ++ others_from p n (gone_from width next places)) (let e : 0 ≡ count - p = omega arith in e)
     ∙ so_far
-
--- the matrix that the code makes has the entries of the erasure
-pub same_entries : (g : Grid) (e : ℕ) (cells points lost kept read : List ℕ) → g ≡ record { rows = e; columns = e; entries = cells } → length lost ≡ e → length read ≡ e → read ≡ kept
-    → ((i j : ℕ) → i < length read → j < length lost → get_or cells (i * length lost + j) 0 ≡ entry points lost read i j)
-    → (i j : ℕ) → i < length lost → j < length lost → cell g i j ≡ entry points lost kept i j
-same_entries g e cells points lost kept read made lost_len read_len same at i j li lj =
-    ap (λ (m : Grid). get_or m.entries (i * m.columns + j) 0) made
-    ∙ ap (λ (n : ℕ). get_or cells (i * n + j) 0) (sym lost_len)
-    ∙ at i j (omega arith) lj
-    ∙ ap (λ (l : List ℕ). entry points lost l i j) same

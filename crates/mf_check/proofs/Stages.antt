@@ -6,7 +6,7 @@ use Rattle.mf_shape.specs.declared.Stage.{Stage}
 use Rattle.mf_shape.specs.Stages.{width_at, parities_at}
 use Rattle.mf_shape.specs.Chain.{IsChain}
 use Rattle.mf_code.specs.Decodable.{IsPlaceSet}
-use Rattle.mf_check.specs.Sets.{StageAnswer}
+use Rattle.mf_check.specs.Search.{StageAnswer}
 use Rattle.mf_check.specs.Families.{stage_points, IsStageDecodable, ArePoints}
 use Rattle.mf_check.specs.Faults.{IsUndecodable}
 

@@ -43,14 +43,6 @@ IsPointFault count points (PointTwice i j) =
 IsPointFault count points (Undecodable g places kernel) = ⊥
 IsPointFault count points Memory = ⊥
 
--- A stage isn't decodable, as far as memory was had.
-abbrev pub IsStageFault : List Stage → List ℕ → FamilyFault → Type 0
-IsStageFault stages points (PointCount n) = ⊥
-IsStageFault stages points (PointZero i) = ⊥
-IsStageFault stages points (PointTwice i j) = ⊥
-IsStageFault stages points (Undecodable g places kernel) = IsUndecodable stages points g places kernel
-IsStageFault stages points Memory = Unit {0}
-
 -- Where each fault comes. Want of memory may come at any points.
 abbrev pub IsFault : List Stage → List ℕ → FamilyFault → Type 0
 IsFault stages points (PointCount n) = IsPointFault (parities_at stages 0) points (PointCount n)

@@ -2,11 +2,10 @@
 //! as many places as there are parities is decodable.
 #![tactic(auto)]
 
-ghost use Rattle.std.specs.Prelude.{◌≡◌, ℕ, ◌<◌, length, IfOk, IfErr, MatchOption};
-ghost use Rattle.mf_shape.specs.Chain.{IsShape};
+ghost use Rattle.std.specs.Prelude.{◌≡◌, Err, IfOk, IfErr};
 ghost use Rattle.mf_shape.specs.Stages.{parities_at};
-ghost use Rattle.mf_check.specs.Families.{IsCode, IsFamily, ArePoints, IsStageDecodable};
-ghost use Rattle.mf_check.specs.Faults.{IsFault, IsStageFault};
+ghost use Rattle.mf_check.specs.Families.{IsCode};
+ghost use Rattle.mf_check.specs.Faults.{IsFault, IsPointFault};
 
 mod points;
 mod search;
@@ -100,42 +99,14 @@ impl Family {
     }
 }
 
-/// The first stage that isn't decodable, as a fault.
-fn stage_fault(alloc: Global, shape: &Shape, points: &[u8]) -> Option<FamilyFault>
-    requires shape { IsShape shape.now }
-    requires points { ArePoints (parities_at shape.now.stages 0) points.now }
-    ensures { MatchOption result
-        ((g : ℕ) → g < length shape.now.stages → IsStageDecodable shape.now.stages points.now g)
-        (IsStageFault shape.now.stages points.now) }
-{
-    let stages = shape.stages();
-    for g in 0..stages.len() {
-        let stage = stages[g];
-        match first_undecodable(alloc, &points[..stage.parities as usize], stage.width) {
-            Ok(None) => {}
-            Ok(Some((items, kernel))) => {
-                return Some(FamilyFault::Undecodable {
-                    stage: g as u32,
-                    places: Places { items },
-                    kernel,
-                });
-            }
-            Err(_) => return Some(FamilyFault::Memory),
-        }
-    }
-    None
-}
+impl From<AllocError> for FamilyFault {
+    ghost use Rattle.mf_check.specs.declared.FamilyFault.TheVariants.{Memory};
 
-/// A copy of the shape and the points.
-fn copied(alloc: Global, shape: &Shape, points: &[u8]) -> Result<Family, AllocError>
-    requires shape { IsShape shape.now }
-    requires points { IsFamily shape.now.stages points.now }
-    ensures { IfOk result (λ family. family ≡ record { shape = shape.now; points = points.now }) }
-{
-    Ok(Family {
-        shape: shape.clone()?,
-        points: Vec::from_slice(alloc, points)?,
-    })
+    ghost from_gives = { λ _ fault. fault ≡ Memory };
+
+    fn from(_error: AllocError) -> FamilyFault {
+        FamilyFault::Memory
+    }
 }
 
 /// The family of this shape and these points, or the first fault.
@@ -146,18 +117,30 @@ pub fn check(alloc: Global, shape: &Shape, points: &[u8]) -> Result<Family, Fami
     ensures family { IfOk result (λ family.
         (family ≡ record { shape = shape.now; points = points.now }) × IsCode family) }
     ensures fault { IfErr result (IsFault shape.now.stages points.now) }
+
+    // The fault of points alone is what is answered, wherever there is one.
+    ensures exactly { (fault : FamilyFault)
+        → IsPointFault (parities_at shape.now.stages 0) points.now fault → result ≡ Err fault }
 {
-    let count = shape.stages()[0].parities;
-    if let Some(fault) = point_fault(points, count) {
+    let stages = shape.stages();
+    if let Some(fault) = point_fault(points, stages[0].parities) {
         return Err(fault);
     }
-    if let Some(fault) = stage_fault(alloc, shape, points) {
-        return Err(fault);
+    for g in 0..stages.len() {
+        let stage = stages[g];
+        let own = &points[..stage.parities as usize];
+        if let Some((items, kernel)) = first_undecodable(alloc, own, stage.width)? {
+            return Err(FamilyFault::Undecodable {
+                stage: g as u32,
+                places: Places { items },
+                kernel,
+            });
+        }
     }
-    match copied(alloc, shape, points) {
-        Ok(family) => Ok(family),
-        Err(_) => Err(FamilyFault::Memory),
-    }
+    Ok(Family {
+        shape: shape.clone()?,
+        points: Vec::from_slice(alloc, points)?,
+    })
 }
 
 #[cfg(test)]

@@ -1,7 +1,7 @@
 //! The first set of places that isn't decodable, in the order of the sets.
 ghost use Rattle.std.specs.Prelude.{◌≡◌, ◌≢◌, ℕ, ◌+◌, ◌<◌, ◌≤◌, [], ◌∷◌, length, slice_index};
 ghost use Rattle.std.specs.Prelude.{vec_len, IfOk};
-ghost use Rattle.mf_check.specs.Sets.{IsFront, SearchAnswer, StageAnswer};
+ghost use Rattle.mf_check.specs.Search.{IsFront, SearchAnswer, StageAnswer};
 
 use crate::sets::kernel_at;
 use mf_matrix::KernelList;
@@ -9,12 +9,13 @@ use std::alloc::{AllocError, Global};
 
 /// Tries each set that begins with `places` and goes on with places from `from` on, in order. At a
 /// set that isn't decodable it ends with the set in `places`, and gives its kernel list. Where there
-/// is none, `places` is as before.
+/// is none, `places` is as before. `kept` is room for the kept parities of a set.
 pub fn first_continued(
     alloc: Global,
     points: &[u8],
     width: u32,
     places: &mut Vec<u32>,
+    kept: &mut Vec<u32>,
     from: u32,
 ) -> Result<Option<KernelList>, AllocError>
     requires few { length points.now ≤ 4 }
@@ -23,11 +24,11 @@ pub fn first_continued(
     ensures { IfOk result (SearchAnswer points.now width places.old.items from places.new.items) }
 {
     if places.len() == points.len() {
-        return kernel_at(alloc, points, width, places);
+        return kernel_at(alloc, points, width, places, kept);
     }
     for place in from..width + points.len() as u32 {
         places.push(place)?;
-        match first_continued(alloc, points, width, places, place + 1)? {
+        match first_continued(alloc, points, width, places, kept, place + 1)? {
             Some(kernel) => return Ok(Some(kernel)),
             None => {
                 let _ = places.pop();
@@ -39,7 +40,8 @@ pub fn first_continued(
 
 /// The first set of places of a stripe that isn't decodable, with its kernel list. Only sets that
 /// begin with the first data place are tried: moving the data places of a set to the front
-/// multiplies each row of its matrix by a number that isn't zero.
+/// multiplies each row of its matrix by a number that isn't zero. Memory is taken once a call, and
+/// for the kernel list.
 pub fn first_undecodable(
     alloc: Global,
     points: &[u8],
@@ -54,7 +56,8 @@ pub fn first_undecodable(
 {
     let mut places = Vec::with_capacity(alloc, points.len())?;
     places.push(0)?;
-    match first_continued(alloc, points, width, &mut places, 1)? {
+    let mut kept = Vec::with_capacity(alloc, points.len())?;
+    match first_continued(alloc, points, width, &mut places, &mut kept, 1)? {
         None => Ok(None),
         Some(kernel) => Ok(Some((places, kernel))),
     }

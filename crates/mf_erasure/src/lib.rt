@@ -4,7 +4,8 @@
 
 ghost use Rattle.std.specs.Prelude.{◌≡◌, ℕ, ◌<◌, ◌≤◌, length, slice_index};
 ghost use Rattle.mf_matrix.specs.Matrix.{IsGrid, entry as entry_of};
-ghost use Rattle.mf_erasure.specs.Erasure.{entry, DecodableByMatrix, SetsAreErasures};
+ghost use Rattle.std.specs.Bool.{OnTrue, OnFalse};
+ghost use Rattle.mf_erasure.specs.Erasure.{entry, IsErasure, IsPlaces, DecodableByMatrix, SetsAreErasures};
 
 use mf_field::pow;
 use mf_matrix::Matrix;
@@ -28,6 +29,28 @@ pub fn erasure_matrix(points: &[u8], lost: &[u32], kept: &[u32]) -> Matrix
         }
     }
     matrix
+}
+
+/// Whether these lists are an erasure of a stripe of `width` data places with `count` parities: as many lost
+/// places as kept parities, both in ascending order, the places below the width and the parities below the count.
+pub fn is_erasure(width: u32, count: u32, lost: &[u32], kept: &[u32]) -> bool
+    ensures yes { OnTrue result (IsErasure width count lost.now kept.now) }
+    ensures no { OnFalse result (IsErasure width count lost.now kept.now → ⊥) }
+{
+    lost.len() == kept.len() && are_places(width, lost) && are_places(count, kept)
+}
+
+/// Whether these are places below `count`, in ascending order.
+fn are_places(count: u32, places: &[u32]) -> bool
+    ensures yes { OnTrue result (IsPlaces count places.now) }
+    ensures no { OnFalse result (IsPlaces count places.now → ⊥) }
+{
+    for k in 0..places.len() {
+        if places[k] >= count || (k > 0 && places[k] <= places[k - 1]) {
+            return false;
+        }
+    }
+    true
 }
 
 /// A set of places is decodable just where the matrix of its erasure sends only the zero list to zero.

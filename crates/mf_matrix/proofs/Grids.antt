@@ -5,10 +5,15 @@ use Rattle.std.proofs.Math.Seq.{take-set-lt}
 use Rattle.std.proofs.lemmas.Bool.{cases_eq, cases_lt}
 use Rattle.std.proofs.lemmas.Nat.{mul-add-lt, mul-le}
 use Rattle.std.proofs.lemmas.List.{take-replicate, get_or-set_same, get_or-set_other, get_or-replicate, get_or_past, length-set, length-replicate}
+use Rattle.mf_matrix.specs.Tables.{IsTable}
 use Rattle.mf_matrix.specs.Matrix.{Grid, IsGrid, entry}
 
 abbrev pub grid_of : ℕ → ℕ → List ℕ → Grid
 grid_of rows columns room = record { rows = rows; columns = columns; entries = take (rows * columns) room }
+
+-- the entries of a matrix are bytes
+pub bytes_of : (m n : Grid) → m ≡ n → IsGrid m → IsTable (entry n)
+bytes_of m n e grid i j = (let g : IsGrid n = subst IsGrid e grid in g).bytes (i * n.columns + j)
 
 -- the place of an entry
 pub place_below : (rows columns row column : ℕ) → row < rows → column < columns → row * columns + column < rows * columns

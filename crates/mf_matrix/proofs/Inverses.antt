@@ -1,10 +1,11 @@
 -- A system solved for each unknown has the inverse on its right side.
-use Rattle.std.proofs.Common.{◌≡◌, ℕ, ◌+◌, ◌<◌, bit_xor, refl, sym, ap, ap₂, subst, ◌∙◌}
+use Rattle.std.proofs.Common.{◌≡◌, ℕ, ◌+◌, ◌<◌, bit_xor, refl, sym, ap, ap₂, subst, ◌∙◌, arith}
+use Rattle.std.specs.Int.Bits.{xor_zero_r}
 use Rattle.mf_lemmas.proofs.Numbers.{equal_from_sum, sum_from_equal}
 use Rattle.mf_code.specs.Field.{times}
 use Rattle.mf_code.specs.Sums.{sum_below}
 use Rattle.mf_code.proofs.Sums.{sum_below-same, sum_below-zero}
-use Rattle.mf_matrix.specs.Tables.{IsTable, IsBytes, identity_at, product_at, GivesIdentity, IsInverse, SendsToZero}
+use Rattle.mf_matrix.specs.Tables.{IsTable, IsBytes, identity_at, product_at, GivesIdentity, IsInverse, SendsToZero, OnlyZero}
 use Rattle.mf_matrix.specs.Elimination.{Solves, SameSolutions, IsSolvedBelow, IsSystemOf}
 use Rattle.mf_field.proofs.FieldLaws.{times-zero}
 use Rattle.mf_matrix.proofs.Linear.{product-applied}
@@ -12,7 +13,7 @@ use Rattle.mf_matrix.proofs.Sums.{identity_at-lt, identity_sum, sum_identity, jo
 
 -- the values x and y solve the system of a where a x = y
 pub solves_system : (n : ℕ) (a e : ℕ → ℕ → ℕ) (x y : ℕ → ℕ) → IsSystemOf n a e → IsBytes y
-    → ((i : ℕ) → i < n → sum_below n (λ j. times (a i j) (x j)) ≡ y i) → Solves n e (joined n x y)
+    → ((i : ℕ) → i < n → sum_below n (λ j. times (a i j) (x j)) ≡ y i) → Solves n (n + n) e (joined n x y)
 solves_system n a e x y system ly h i lt =
     sum_joined n (e i) x y
     ∙ ap₂ bit_xor
@@ -21,7 +22,7 @@ solves_system n a e x y system ly h i lt =
     ∙ sum_from_equal (y i) (y i) refl
 
 pub system_solved : (n : ℕ) (a e : ℕ → ℕ → ℕ) (x y : ℕ → ℕ) → IsSystemOf n a e → IsBytes y
-    → Solves n e (joined n x y) → (i : ℕ) → i < n → sum_below n (λ j. times (a i j) (x j)) ≡ y i
+    → Solves n (n + n) e (joined n x y) → (i : ℕ) → i < n → sum_below n (λ j. times (a i j) (x j)) ≡ y i
 system_solved n a e x y system ly solves i lt =
     equal_from_sum (sum_below n (λ j. times (a i j) (x j))) (y i)
     (ap₂ bit_xor
@@ -29,8 +30,42 @@ system_solved n a e x y system ly solves i lt =
     (sym (identity_sum n i (λ j. e i (n + j)) y lt ly (λ j l. system.right i j lt l)))
     ∙ sym (sum_joined n (e i) x y) ∙ solves i lt)
 
+-- the left side of the system of a is a
+pub solves_left : (n : ℕ) (a e : ℕ → ℕ → ℕ) (x : ℕ → ℕ) → IsSystemOf n a e → SendsToZero n a x → Solves n n e x
+solves_left n a e x system to_zero i lt =
+    sum_below-same n (λ j. times (e i j) (x j)) (λ j. times (a i j) (x j)) (λ j l. ap (λ v. times v (x j)) (system.left i j lt l)) ∙ to_zero i lt
+
+pub left_solved : (n : ℕ) (a e : ℕ → ℕ → ℕ) (x : ℕ → ℕ) → IsSystemOf n a e → Solves n n e x → SendsToZero n a x
+left_solved n a e x system solves i lt =
+    sym (sum_below-same n (λ j. times (e i j) (x j)) (λ j. times (a i j) (x j)) (λ j l. ap (λ v. times v (x j)) (system.left i j lt l))) ∙ solves i lt
+
+-- with zeros on the right side, an equation is its left side
+left_alone : (n : ℕ) (e : ℕ → ℕ → ℕ) (x : ℕ → ℕ) (i : ℕ)
+    → sum_below (n + n) (λ j. times (e i j) (joined n x (λ _. 0) j)) ≡ sum_below n (λ j. times (e i j) (x j))
+left_alone n e x i =
+    sum_joined n (e i) x (λ _. 0)
+    ∙ ap (bit_xor (sum_below n (λ j. times (e i j) (x j)))) (sum_below-zero n (λ j. times (e i (n + j)) 0) (λ j l. times-zero (e i (n + j))))
+    ∙ xor_zero_r _
+
+-- systems with the same solutions have left sides with the same solutions
+pub same_left : (n : ℕ) (a b : ℕ → ℕ → ℕ) → SameSolutions n (n + n) a b → SameSolutions n n a b
+same_left n a b same = record {
+  kept = λ x lx solves. one_way a b same.kept x lx solves;
+  none_added = λ x lx solves. one_way b a same.none_added x lx solves;
+}
+  where
+    one_way : (a b : ℕ → ℕ → ℕ) → ((z : ℕ → ℕ) → IsBytes z → Solves n (n + n) a z → Solves n (n + n) b z) → (x : ℕ → ℕ) → IsBytes x → Solves n n a x → Solves n n b x
+    one_way a b same x lx solves i lt =
+        sym (left_alone n b x i)
+        ∙ same (joined n x (λ _. 0)) (joined-lt n x (λ _. 0) lx (λ j. omega arith)) (λ k l. left_alone n a x k ∙ solves k l) i lt
+
+-- a system that is solved for each unknown says that its matrix sends only the zero list to zero
+pub only_zero-solved : (n : ℕ) (a init e : ℕ → ℕ → ℕ) → IsSystemOf n a init → SameSolutions n n init e → IsSolvedBelow n e n → OnlyZero n a
+only_zero-solved n a init e system same solved x lx to_zero i lt =
+    sym (identity_sum n i (e i) x lt lx (λ j l. solved.units i j lt l)) ∙ same.kept x lx (solves_left n a init x system to_zero) i lt
+
 module _ (n : ℕ) (a init e : ℕ → ℕ → ℕ) (bytes_a : IsTable a)
-    (system : IsSystemOf n a init) (same : SameSolutions n init e) (solved : IsSolvedBelow n e n) where
+    (system : IsSystemOf n a init) (same : SameSolutions n (n + n) init e) (solved : IsSolvedBelow n e n) where
   -- in the solved system x is the right side's table times y
   right_sum : (x y : ℕ → ℕ) (i : ℕ) → i < n → IsBytes x
       → sum_below (n + n) (λ j. times (e i j) (joined n x y j)) ≡ bit_xor (x i) (sum_below n (λ j. times (e i (n + j)) (y j)))
@@ -68,7 +103,7 @@ zero_from_inverse n a b x la lb lx inverse to_zero i lt =
     ∙ sum_below-zero n (λ k. times (b i k) (sum_below n (λ j. times (a k j) (x j)))) (λ k l. ap (times (b i k)) (to_zero k l) ∙ times-zero (b i k))
 
 -- what a system that is solved for each unknown says of its matrix
-pub solved_system : (n columns : ℕ) (a b init e : ℕ → ℕ → ℕ) → n ≡ columns → IsTable a → IsTable b → IsSystemOf columns a init → SameSolutions n init e → IsSolvedBelow n e n
+pub solved_system : (n columns : ℕ) (a b init e : ℕ → ℕ → ℕ) → n ≡ columns → IsTable a → IsTable b → IsSystemOf columns a init → SameSolutions n (n + n) init e → IsSolvedBelow n e n
     → ((i j : ℕ) → i < n → j < n → b i j ≡ e i (n + j)) → IsInverse columns a b
 solved_system n columns a b init e size bytes_a bytes_b system same solved is =
     let at_n : IsSystemOf n a init = subst (λ m. IsSystemOf m a init) (sym size) system in

@@ -1,6 +1,5 @@
 -- A system that is solved for the unknowns below c, and has no unknown c after that, shows the kernel list in column c.
-use Rattle.std.proofs.Common.{◌≡◌, ℕ, ◌+◌, ◌<◌, ◌≤◌, inl, inr, Bool, true, false, cond, ltb, eqb, List, length, get_or, bit_xor, refl, sym, ap, ap₂, subst, ◌∙◌, arith}
-use Rattle.std.specs.Int.Bits.{xor_zero_r}
+use Rattle.std.proofs.Common.{◌≡◌, ℕ, ◌<◌, ◌≤◌, inl, inr, Bool, true, false, cond, ltb, eqb, List, length, get_or, bit_xor, refl, sym, ap, ap₂, subst, ◌∙◌, arith}
 use Rattle.std.proofs.lemmas.Bool.{cases_lt}
 use Rattle.std.proofs.lemmas.Bool.Decides.{nat_tests}
 use Rattle.std.proofs.lemmas.List.{ext_get_or, get_or_past}
@@ -9,13 +8,13 @@ use Rattle.mf_lemmas.proofs.Numbers.{equal_from_sum, sum_from_equal}
 use Rattle.mf_code.specs.Field.{times}
 use Rattle.mf_code.specs.Sums.{sum_below}
 use Rattle.mf_code.proofs.Sums.{sum_below-same, sum_below-zero}
-use Rattle.mf_matrix.specs.Tables.{IsTable, IsBytes, identity_at, HasInverse, SendsToZero, DependsOnEarlier, IsFirstDependent, IsKernel}
+use Rattle.mf_matrix.specs.Tables.{IsTable, IsBytes, identity_at, HasInverse, SendsToZero, DependsOnEarlier, IsFirstDependent, IsKernel, IsSingular}
 use Rattle.mf_matrix.specs.Elimination.{SameSolutions, IsSolvedBelow, IsSystemOf, IsStuckAt, IsLeading, shown_at}
 use Rattle.mf_code.specs.Rows.{list_of}
 use Rattle.mf_code.proofs.Lists.{length-list_of, list_of_at}
 use Rattle.mf_field.proofs.FieldLaws.{times-lt, times_comm, times_assoc, times-zero, zero-times, times-one, one-times}
-use Rattle.mf_matrix.proofs.Sums.{identity_at-lt, identity_at-other, identity_sum, joined, joined-lt, sum_joined, sum_up_to}
-use Rattle.mf_matrix.proofs.Inverses.{solves_system, system_solved, zero_from_inverse}
+use Rattle.mf_matrix.proofs.Sums.{identity_at-lt, identity_at-other, identity_sum, sum_up_to}
+use Rattle.mf_matrix.proofs.Inverses.{solves_left, left_solved, zero_from_inverse}
 
 -- a number is not both one and zero
 one_or_zero : (v : ℕ) → v ≡ 1 → v ≡ 0 → ⊥
@@ -64,7 +63,7 @@ shown-lt e c f i lf le = choice (ltb i c) (eqb i c)
     choice false false = omega arith
 
 module _ (n c : ℕ) (a init e : ℕ → ℕ → ℕ) (within : c < n) (bytes_a : IsTable a)
-    (system : IsSystemOf n a init) (same : SameSolutions n init e) (solved : IsSolvedBelow n e c) (stuck : IsStuckAt n e c) where
+    (system : IsSystemOf n a init) (same : SameSolutions n n init e) (solved : IsSolvedBelow n e c) (stuck : IsStuckAt n e c) where
   -- equation i at a list that is zero after c, above row c and from it on
   sum_above : (x : ℕ → ℕ) (i : ℕ) → IsBytes x → ((j : ℕ) → c < j → x j ≡ 0) → i < c
       → sum_below n (λ j. times (e i j) (x j)) ≡ bit_xor (x i) (times (e i c) (x c))
@@ -80,30 +79,18 @@ module _ (n c : ℕ) (a init e : ℕ → ℕ → ℕ) (within : c < n) (bytes_a 
       (sum_below-zero c (λ j. times (e i j) (x j)) (λ j l. ap (λ v. times v (x j)) (solved.units i j lt l ∙ identity_at-other i j (omega arith)) ∙ zero-times (x j)))
       (ap (λ v. times v (x c)) (stuck i le lt) ∙ zero-times (x c))
 
-  -- with zeros on the right side, an equation is its left side
-  left_alone : (x : ℕ → ℕ) (i : ℕ) → sum_below (n + n) (λ j. times (e i j) (joined n x (λ _. 0) j)) ≡ sum_below n (λ j. times (e i j) (x j))
-  left_alone x i =
-      sum_joined n (e i) x (λ _. 0)
-      ∙ ap (bit_xor (sum_below n (λ j. times (e i j) (x j)))) (sum_below-zero n (λ j. times (e i (n + j)) 0) (λ j l. times-zero (e i (n + j))))
-      ∙ xor_zero_r _
-
-  zeros_lt : IsBytes (λ _. 0)
-  zeros_lt j = omega arith
-
   -- a list that ends at c and that a sends to zero has, before c, its entry at c times column c
   pub before_from_zero : (x : ℕ → ℕ) → IsBytes x → ((j : ℕ) → c < j → x j ≡ 0) → SendsToZero n a x → (i : ℕ) → i < c → x i ≡ times (e i c) (x c)
   before_from_zero x lx zero to_zero i lt =
       equal_from_sum (x i) (times (e i c) (x c))
-      (sym (sum_above x i lx zero lt) ∙ sym (left_alone x i)
-      ∙ same.kept (joined n x (λ _. 0)) (joined-lt n x (λ _. 0) lx zeros_lt)
-      (solves_system n a init x (λ _. 0) system zeros_lt to_zero) i (omega arith))
+      (sym (sum_above x i lx zero lt) ∙ same.kept x lx (solves_left n a init x system to_zero) i (omega arith))
 
   -- and a list of that form is sent to zero
   pub zero_from_before : (x : ℕ → ℕ) → IsBytes x → ((j : ℕ) → c < j → x j ≡ 0) → ((i : ℕ) → i < c → x i ≡ times (e i c) (x c)) → SendsToZero n a x
   zero_from_before x lx zero before =
-      system_solved n a init x (λ _. 0) system zeros_lt
-      (same.none_added (joined n x (λ _. 0)) (joined-lt n x (λ _. 0) lx zeros_lt)
-      (λ i lt. left_alone x i ∙ elim (cases_lt i c) [
+      left_solved n a init x system
+      (same.none_added x lx
+      (λ i lt. elim (cases_lt i c) [
         | inl above ↦ sum_above x i lx zero above ∙ sum_from_equal (x i) (times (e i c) (x c)) (before i above)
         | inr under ↦ sum_under x i zero under lt
       ]))
@@ -253,13 +240,13 @@ no_inverse n a x la k (b, inverse) =
     ]
 
 -- what a system that can't be solved for the unknown c says of its matrix
-pub stuck_system : (n columns c : ℕ) (a init e : ℕ → ℕ → ℕ) → n ≡ columns → c < n → IsTable a → IsSystemOf columns a init → SameSolutions n init e
+pub stuck_system : (n columns c : ℕ) (a init e : ℕ → ℕ → ℕ) → n ≡ columns → c < n → IsTable a → IsSystemOf columns a init → SameSolutions n n init e
     → IsSolvedBelow n e c → IsStuckAt n e c
     → (v f : ℕ) (x : List ℕ) → IsLeading e c v → times v f ≡ 1 → f < 256 → x ≡ list_of n (shown_at e c f)
-    → IsKernel columns a x × ((y : List ℕ) → IsKernel columns a y → y ≡ x) × (HasInverse columns a → ⊥)
+    → IsSingular columns a x
 stuck_system n columns c a init e size within bytes_a system same solved stuck v f x leading inverse lf is =
     let at_n : IsSystemOf n a init = subst (λ m. IsSystemOf m a init) (sym size) system in
     let k : IsKernel n a x = IsKernel-shown n c a init e within bytes_a at_n same solved stuck v f x leading inverse lf is in
-    let whole : IsKernel n a x × ((y : List ℕ) → IsKernel n a y → y ≡ x) × (HasInverse n a → ⊥) =
+    let whole : IsSingular n a x =
     (k, λ y ky. IsKernel-unique n c a init e within bytes_a at_n same solved stuck x y k ky, no_inverse n a x bytes_a k) in
-    subst (λ m. IsKernel m a x × ((y : List ℕ) → IsKernel m a y → y ≡ x) × (HasInverse m a → ⊥)) size whole
+    subst (λ m. IsSingular m a x) size whole

@@ -5,7 +5,6 @@ use Rattle.std.proofs.lemmas.List.{get_or_past}
 use Rattle.mf_code.specs.Field.{times}
 use Rattle.mf_code.proofs.Sums.{sum_below-same}
 use Rattle.mf_matrix.specs.Tables.{IsTable, IsInverse, HasInverse, GivesIdentity, SendsToZero, OnlyZero, DependsOnEarlier, IsKernel}
-use Rattle.mf_matrix.proofs.Inverses.{zero_from_inverse}
 
 -- the same entry in each row and column below n
 abbrev pub SameBelow : ℕ → (ℕ → ℕ → ℕ) → (ℕ → ℕ → ℕ) → Type 0
@@ -62,12 +61,11 @@ is_kernel-same n a a' x sa k =
       begins_with_one = k.begins_with_one;
     }
 
--- a table with an inverse sends only zeros to zero
-pub only_zero-from_inverse : (n : ℕ) (a a' b : ℕ → ℕ → ℕ) → SameBelow n a a' → IsTable a → IsInverse n a b → OnlyZero n a'
-only_zero-from_inverse n a a' b sa bytes inverse x lx zeros =
-    zero_from_inverse n a b x bytes inverse.bytes lx inverse.on_the_left (sends-same n a' a x (same_back n a a' sa) zeros)
+-- tables with the same entries send the same lists to zero
+pub only_zero-same : (n : ℕ) (a a' : ℕ → ℕ → ℕ) → SameBelow n a a' → OnlyZero n a → OnlyZero n a'
+only_zero-same n a a' sa only x lx zeros = only x lx (sends-same n a' a x (same_back n a a' sa) zeros)
 
--- one with a kernel list doesn't
+-- a table that sends only zeros to zero has no kernel list
 pub no_kernel : (n : ℕ) (a : ℕ → ℕ → ℕ) (x : List ℕ) → OnlyZero n a → IsKernel n a x → ⊥
 no_kernel n a x only k =
     let (j, one, zeros) = k.begins_with_one in

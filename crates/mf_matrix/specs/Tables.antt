@@ -1,5 +1,5 @@
 -- Tables of bytes: the entry in row i and column j is t i j.
-use Rattle.std.specs.Prelude.{ℕ, ◌≡◌, ◌<◌, ◌==◌, if◌then◌else◌, List, length, slice_index}
+use Rattle.std.specs.Prelude.{ℕ, ◌≡◌, ◌<◌, ◌==◌, if◌then◌else◌, List, length, slice_index, Option, Some, None}
 use Rattle.mf_code.specs.Field.{times}
 use Rattle.mf_code.specs.Sums.{sum_below}
 
@@ -63,3 +63,12 @@ pub record IsKernel (n : ℕ) (a : ℕ → ℕ → ℕ) (x : List ℕ) : Type 0 
   pub to_zero : SendsToZero n a (slice_index x)
   pub zero_after : (c : ℕ) × IsFirstDependent n a c × ((j : ℕ) → c < j → slice_index x j ≡ 0)
   pub begins_with_one : BeginsWithOne x
+
+-- a has no inverse: x is its kernel list, and no other list is.
+abbrev pub IsSingular : ℕ → (ℕ → ℕ → ℕ) → List ℕ → Type 0
+IsSingular n a x = IsKernel n a x × ((y : List ℕ) → IsKernel n a y → y ≡ x) × (HasInverse n a → ⊥)
+
+-- What a search for the kernel list of a says: a sends only the zero list to zero, or x is its one kernel list.
+abbrev pub FindsKernel : ℕ → (ℕ → ℕ → ℕ) → Option (List ℕ) → Type 0
+FindsKernel n a None = OnlyZero n a
+FindsKernel n a (Some x) = IsSingular n a x

@@ -9,33 +9,38 @@ ghost use Rattle.mf_code.specs.Rows.{list_of};
 ghost use Rattle.mf_matrix.specs.Tables.{IsTable};
 ghost use Rattle.mf_matrix.specs.Matrix.{IsGrid, entry};
 ghost use Rattle.mf_matrix.specs.Elimination.{coefficient, SameSolutions, IsSolvedBelow, AddsTimes};
-ghost use Rattle.mf_matrix.specs.Elimination.{Scales, IsSystemOf, IsStuckAt, IsLeading, shown_at};
+ghost use Rattle.mf_matrix.specs.Elimination.{Scales, IsSystemOf, IsStuckAt, IsLeading, shown_at, EndsAt};
 
-use crate::Matrix;
+use crate::{KernelList, Matrix};
 use mf_field::{add, inv, mul};
 use std::alloc::{AllocError, Global};
 
 /// The coefficients of one equation, those of x from place 0 on, and those of y after them.
 pub type Equation = [u8; 16];
 
-/// The equation with a multiple of another one added.
-fn plus_times(equation: Equation, factor: u8, other: Equation) -> Equation
-    ensures { (j : ℕ) → slice_index result j
+/// The equation with a multiple of another one added, in its first coefficients.
+fn plus_times(equation: Equation, unknowns: usize, factor: u8, other: Equation) -> Equation
+    requires { unknowns ≤ 16 }
+    ensures added { (j : ℕ) → j < unknowns → slice_index result j
         ≡ bit_xor (slice_index equation j) (times factor (slice_index other j)) }
+    ensures rest { (j : ℕ) → unknowns ≤ j → slice_index result j ≡ slice_index equation j }
 {
     let mut sum = equation;
-    for j in 0..16 {
+    for j in 0..unknowns {
         sum[j] = add(equation[j], mul(factor, other[j]));
     }
     sum
 }
 
-/// A multiple of the equation.
-fn multiple(equation: Equation, factor: u8) -> Equation
-    ensures { (j : ℕ) → slice_index result j ≡ times factor (slice_index equation j) }
+/// The equation with its first coefficients multiplied.
+fn multiple(equation: Equation, unknowns: usize, factor: u8) -> Equation
+    requires { unknowns ≤ 16 }
+    ensures multiplied { (j : ℕ) → j < unknowns
+        → slice_index result j ≡ times factor (slice_index equation j) }
+    ensures rest { (j : ℕ) → unknowns ≤ j → slice_index result j ≡ slice_index equation j }
 {
     let mut product = equation;
-    for j in 0..16 {
+    for j in 0..unknowns {
         product[j] = mul(factor, equation[j]);
     }
     product
@@ -76,80 +81,91 @@ fn equation_with(equations: &[Equation; 8], size: usize, column: usize) -> Optio
 }
 
 /// Adds a multiple of equation `p` to equation `i`.
-fn add_to(equations: &mut [Equation; 8], i: usize, factor: u8, p: usize)
+fn add_to(equations: &mut [Equation; 8], unknowns: usize, i: usize, factor: u8, p: usize)
+    requires narrow { unknowns ≤ 16 }
     requires i_in { i < 8 }
     requires p_in { p < 8 }
-    ensures { AddsTimes (coefficient equations.old) (coefficient equations.new) i factor p }
+    ensures { AddsTimes unknowns (coefficient equations.old) (coefficient equations.new)
+        i factor p }
 {
     let other = equations[p];
-    equations[i] = plus_times(equations[i], factor, other);
+    equations[i] = plus_times(equations[i], unknowns, factor, other);
 }
 
 /// Multiplies equation `i`.
-fn scale(equations: &mut [Equation; 8], i: usize, factor: u8)
-    requires { i < 8 }
-    ensures { Scales (coefficient equations.old) (coefficient equations.new) i factor }
+fn scale(equations: &mut [Equation; 8], unknowns: usize, i: usize, factor: u8)
+    requires narrow { unknowns ≤ 16 }
+    requires i_in { i < 8 }
+    ensures { Scales unknowns (coefficient equations.old) (coefficient equations.new) i factor }
 {
-    equations[i] = multiple(equations[i], factor);
+    equations[i] = multiple(equations[i], unknowns, factor);
 }
 
 /// Brings the unknown of this column into the equation of the column, from equation `with`.
-fn bring(equations: &mut [Equation; 8], size: usize, column: usize, with: usize)
+fn bring(equations: &mut [Equation; 8], size: usize, unknowns: usize, column: usize, with: usize)
     requires few { size ≤ 8 }
+    requires narrow { (size ≤ unknowns) × (unknowns ≤ 16) }
     requires behind { column ≤ with }
     requires within { with < size }
     requires has { coefficient equations.old with column ≢ 0 }
     requires solved { IsSolvedBelow size (coefficient equations.old) column }
-    ensures same { SameSolutions size (coefficient equations.old) (coefficient equations.new) }
+    ensures same { SameSolutions size unknowns
+        (coefficient equations.old) (coefficient equations.new) }
     ensures solved { IsSolvedBelow size (coefficient equations.new) column }
     ensures has { coefficient equations.new column column ≢ 0 }
 {
     if equations[column][column] == 0 {
-        add_to(equations, column, 1, with);
+        add_to(equations, unknowns, column, 1, with);
     }
 }
 
 /// Makes the coefficient of the unknown of this column 1 in the equation of the column.
-fn normalize(equations: &mut [Equation; 8], size: usize, column: usize)
+fn normalize(equations: &mut [Equation; 8], size: usize, unknowns: usize, column: usize)
     requires few { size ≤ 8 }
+    requires narrow { (size ≤ unknowns) × (unknowns ≤ 16) }
     requires within { column < size }
     requires has { coefficient equations.old column column ≢ 0 }
     requires solved { IsSolvedBelow size (coefficient equations.old) column }
-    ensures same { SameSolutions size (coefficient equations.old) (coefficient equations.new) }
+    ensures same { SameSolutions size unknowns
+        (coefficient equations.old) (coefficient equations.new) }
     ensures solved { IsSolvedBelow size (coefficient equations.new) column }
     ensures one { coefficient equations.new column column ≡ 1 }
 {
     if let Some(factor) = inv(equations[column][column]) {
-        scale(equations, column, factor);
+        scale(equations, unknowns, column, factor);
     } else {
         unreachable!();
     }
 }
 
 /// Takes the unknown of this column out of all equations but its own.
-fn clear(equations: &mut [Equation; 8], size: usize, column: usize)
+fn clear(equations: &mut [Equation; 8], size: usize, unknowns: usize, column: usize)
     requires few { size ≤ 8 }
+    requires narrow { (size ≤ unknowns) × (unknowns ≤ 16) }
     requires within { column < size }
     requires one { coefficient equations.old column column ≡ 1 }
     requires solved { IsSolvedBelow size (coefficient equations.old) column }
-    ensures same { SameSolutions size (coefficient equations.old) (coefficient equations.new) }
+    ensures same { SameSolutions size unknowns
+        (coefficient equations.old) (coefficient equations.new) }
     ensures solved { IsSolvedBelow size (coefficient equations.new) (column + 1) }
 {
     for i in 0..size {
         if i != column {
             let factor = equations[i][column];
-            add_to(equations, i, factor, column);
+            add_to(equations, unknowns, i, factor, column);
         }
     }
 }
 
 /// Solves the system for the unknown of this column: the unknown stays in one equation alone. False
 /// where no equation from `column` on has it, and then nothing changes.
-pub fn solve_for(equations: &mut [Equation; 8], size: usize, column: usize) -> bool
+fn solve_for(equations: &mut [Equation; 8], size: usize, unknowns: usize, column: usize) -> bool
     requires few { size ≤ 8 }
+    requires narrow { (size ≤ unknowns) × (unknowns ≤ 16) }
     requires within { column < size }
     requires solved { IsSolvedBelow size (coefficient equations.old) column }
-    ensures same { SameSolutions size (coefficient equations.old) (coefficient equations.new) }
+    ensures same { SameSolutions size unknowns
+        (coefficient equations.old) (coefficient equations.new) }
     ensures solved { OnTrue result (IsSolvedBelow size (coefficient equations.new) (column + 1)) }
     ensures unchanged { OnFalse result (equations.new ≡ equations.old) }
     ensures stuck { OnFalse result (IsStuckAt size (coefficient equations.old) column) }
@@ -157,12 +173,30 @@ pub fn solve_for(equations: &mut [Equation; 8], size: usize, column: usize) -> b
     match equation_with(equations, size, column) {
         None => false,
         Some(with) => {
-            bring(equations, size, column, with);
-            normalize(equations, size, column);
-            clear(equations, size, column);
+            bring(equations, size, unknowns, column, with);
+            normalize(equations, size, unknowns, column);
+            clear(equations, size, unknowns, column);
             true
         }
     }
+}
+
+/// Solves the system for one unknown after the other, and keeps its solutions. It answers the first unknown for which
+/// the system can't be solved, or None.
+pub fn solve(equations: &mut [Equation; 8], size: usize, unknowns: usize) -> Option<usize>
+    requires few { size ≤ 8 }
+    requires narrow { (size ≤ unknowns) × (unknowns ≤ 16) }
+    requires unsolved { IsSolvedBelow size (coefficient equations.old) 0 }
+    ensures same { SameSolutions size unknowns
+        (coefficient equations.old) (coefficient equations.new) }
+    ensures end { EndsAt size (coefficient equations.new) result }
+{
+    for column in 0..size {
+        if !solve_for(equations, size, unknowns, column) {
+            return Some(column);
+        }
+    }
+    None
 }
 
 /// The first number of the column before its own equation that is not zero, or 1.
@@ -218,14 +252,15 @@ pub fn kernel_of(
     equations: &[Equation; 8],
     size: usize,
     column: usize,
-) -> Result<Vec<u8>, AllocError>
+) -> Result<KernelList, AllocError>
     requires { column < 8 }
     ensures { IfOk result (λ list. (v f : ℕ) × IsLeading (coefficient equations.now) column v
         × (times v f ≡ 1) × (f < 256)
-        × (list.items ≡ list_of size (shown_at (coefficient equations.now) column f))) }
+        × (list ≡ list_of size (shown_at (coefficient equations.now) column f))) }
 {
     if let Some(factor) = inv(leading(equations, column)) {
-        shown_list(alloc, equations, size, column, factor)
+        let entries = shown_list(alloc, equations, size, column, factor)?;
+        Ok(KernelList { entries })
     } else {
         unreachable!()
     }

@@ -3,13 +3,13 @@
 
 ghost use Rattle.std.specs.Prelude.{◌≡◌, ℕ, ◌+◌, ◌*◌, ◌<◌, ◌≤◌, ⊤, length, slice_index};
 ghost use Rattle.std.specs.Prelude.{IfOk, IfErr, replicate, set};
-ghost use Rattle.mf_matrix.specs.Tables.{IsInverse};
+ghost use Rattle.mf_matrix.specs.Tables.{IsInverse, FindsKernel};
 ghost use Rattle.mf_matrix.specs.Matrix.{IsGrid, entry};
 ghost use Rattle.mf_matrix.specs.NoInverses.{IsNoInverse};
 
 mod elimination;
 
-use elimination::{equations_of, kernel_of, right_side, solve_for};
+use elimination::{equations_of, kernel_of, right_side, solve};
 use std::alloc::{AllocError, Global};
 use std::marker::Model;
 
@@ -143,6 +143,30 @@ fn zeros() -> [u8; 64]
     [0; 64]
 }
 
+impl From<AllocError> for NoInverse {
+    ghost use Rattle.mf_matrix.specs.declared.NoInverse.TheVariants.{Memory};
+
+    ghost from_gives = { λ _ reason. reason ≡ Memory };
+
+    fn from(_error: AllocError) -> NoInverse {
+        NoInverse::Memory
+    }
+}
+
+/// The one kernel list of a square matrix, or None where the matrix sends only the zero list to zero.
+/// Memory is taken for a kernel list alone.
+pub fn kernel(alloc: Global, matrix: &Matrix) -> Result<Option<KernelList>, AllocError>
+    requires { matrix.now.rows ≡ matrix.now.columns }
+    ensures { IfOk result (FindsKernel (matrix.now.columns) (entry matrix.now)) }
+{
+    let size = matrix.columns as usize;
+    let mut equations = equations_of(matrix);
+    match solve(&mut equations, size, size) {
+        None => Ok(None),
+        Some(column) => Ok(Some(kernel_of(alloc, &equations, size, column)?)),
+    }
+}
+
 /// The inverse of a square matrix, or the one kernel list of a matrix that has none. `Memory` says
 /// that memory ran out, and nothing of the matrix.
 pub fn invert(alloc: Global, matrix: &Matrix) -> Result<Matrix, NoInverse>
@@ -155,15 +179,10 @@ pub fn invert(alloc: Global, matrix: &Matrix) -> Result<Matrix, NoInverse>
 {
     let size = matrix.columns as usize;
     let mut equations = equations_of(matrix);
-    for column in 0..size {
-        if !solve_for(&mut equations, size, column) {
-            return match kernel_of(alloc, &equations, size, column) {
-                Ok(entries) => Err(NoInverse::Kernel(KernelList { entries })),
-                Err(_) => Err(NoInverse::Memory),
-            };
-        }
+    match solve(&mut equations, size, 2 * size) {
+        None => Ok(right_side(&equations, matrix.columns)),
+        Some(column) => Err(NoInverse::Kernel(kernel_of(alloc, &equations, size, column)?)),
     }
-    Ok(right_side(&equations, matrix.columns))
 }
 
 #[cfg(test)]

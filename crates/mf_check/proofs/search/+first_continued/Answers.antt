@@ -1,5 +1,5 @@
 use Rattle.std.proofs.Common.{◌≡◌, ◌+◌, ℕ, Option, List, [], ◌∷◌, ◌++◌, length, ap, sym, subst, ◌∙◌, arith}
-use Rattle.mf_check.specs.Sets.{SearchAnswer, IsFront, AllDecodable, IsFirstUndecodable}
+use Rattle.mf_check.specs.Search.{SearchAnswer, IsFront, AllDecodable, IsFirstUndecodable}
 use Rattle.mf_check.proofs.Orders.{answer_whole, IsFront-push, one_more, found, popped}
 use Rattle.mf_check.proofs.search.+first_continued.Goals as goal
 

@@ -1,5 +1,5 @@
 use Rattle.std.proofs.Common.{◌≡◌, ◌-◌, ◌<◌, length, slice_index, vec_len}
-use Rattle.mf_check.specs.Sets.{AllDecodable}
+use Rattle.mf_check.specs.Search.{AllDecodable}
 use Rattle.mf_check.proofs.search.+first_continued.Given as goal
 
 abbrev pub decreases-first_continued : goal.decreases-first_continued

@@ -1,5 +1,5 @@
 use Rattle.std.proofs.Common.{◌≡◌, ◌+◌, ℕ, Option, List, [], ◌∷◌, ◌++◌, get_or, length, ap, subst, ◌∙◌, arith}
-use Rattle.mf_check.specs.Sets.{SearchAnswer, AllDecodable, IsFirstUndecodable}
+use Rattle.mf_check.specs.Search.{SearchAnswer, AllDecodable, IsFirstUndecodable}
 use Rattle.mf_check.proofs.Orders.{begins_with_zero, zero_before}
 use Rattle.mf_check.proofs.Shifts.{decodable_from_first}
 use Rattle.mf_check.proofs.search.first_undecodable.Goals as goal

@@ -8,5 +8,5 @@ returns-in-Some-clause-same c =
     let e1 = coefficient c.bring.new.equations in
     let e2 = coefficient c.normalize.new.equations in
     let e3 = coefficient c.clear.new.equations in
-    SameSolutions-trans c.args.size e0 e1 e3 c.bring.ensures.same
-    (SameSolutions-trans c.args.size e1 e2 e3 c.normalize.ensures.same c.clear.ensures.same)
+    SameSolutions-trans c.args.size c.args.unknowns e0 e1 e3 c.bring.ensures.same
+    (SameSolutions-trans c.args.size c.args.unknowns e1 e2 e3 c.normalize.ensures.same c.clear.ensures.same)

@@ -1,6 +1,6 @@
 use Rattle.std.proofs.Common.{◌≡◌, ◌≤◌, ◌-◌, ◌++◌, length, map, drop}
 use Rattle.mf_erasure.specs.Erasure.{others_from}
-use Rattle.mf_check.proofs.sets.kept_parities.Given as goal
+use Rattle.mf_check.proofs.sets.list_kept.Given as goal
 
 abbrev pub invariant-loop-p : goal.invariant-loop-p
 invariant-loop-p l = record {

@@ -2,8 +2,8 @@ use Rattle.std.proofs.Common.{◌≡◌, ◌≤◌, ◌<◌, ◌+◌, ◌-◌, �
 use Rattle.std.specs.Global.{Global}
 use Rattle.mf_erasure.specs.Erasure.{others_from}
 use Rattle.mf_check.proofs.Parts.{gone_from, gone_step, kept_step, all_kept}
-use Rattle.mf_check.proofs.sets.kept_parities.Goals as goal
-use Rattle.mf_check.proofs.sets.kept_parities.Goals.{then-stands_at, else-stands_at+in_ok-push}
+use Rattle.mf_check.proofs.sets.list_kept.Goals as goal
+use Rattle.mf_check.proofs.sets.list_kept.Goals.{then-stands_at, else-stands_at+in_ok-push}
 
 pub loop-p-preserved : goal.loop-p-preserved
 loop-p-preserved c =

@@ -1,22 +1,22 @@
 -- A run in which every kind of step occurs, and a state that breaks each rule.
-use Rattle.std.proofs.Common.{◌≡◌, ℕ, zero, suc, ◌+◌, ◌*◌, ◌<◌, eqb, true, false, cond, List, [], ◌∷◌, map, get_or, refl, inl, inr, ⊎_elim, arith}
-use Rattle.mf_machine.specs.declared.view.Met.{Met}
-use Rattle.mf_machine.specs.declared.answer.Slot.TheVariants.{Work}
+use Rattle.std.proofs.Common.{◌≡◌, ℕ, zero, suc, ◌+◌, ◌*◌, ◌<◌, eqb, true, false, cond, List, [], ◌∷◌, ◌++◌, get_or, take, drop, subst, refl, inl, inr, ⊎_elim, arith}
+use Rattle.mf_machine.specs.declared.answer.Slot.TheVariants.{Hold, Work}
 use Rattle.mf_machine.specs.declared.view.View.{View}
-use Rattle.mf_machine.specs.Counts.{truth, times}
+use Rattle.mf_machine.specs.Actors.{NextHolds}
+use Rattle.mf_machine.specs.Counts.{truth}
 use Rattle.mf_machine.specs.File.{File, Opening, State, Holds, HasCell, Unharmed, name_word}
 use Rattle.mf_machine.specs.Kept.{Number, Pins, Born, Builder, Dropped, Losses, Cells, Accounted, Caused}
-use Rattle.mf_machine.specs.Moves.{by, Move, Runs, run}
+use Rattle.mf_machine.specs.Moves.{by, Deed, after, Move, Runs, run}
 use Rattle.mf_machine.specs.Rest.{Rest}
 use Rattle.mf_machine.specs.Worlds.{World, actor, Opens, first_view, fresh, nothing_seen, nothing_built}
 use Rattle.mf_machine.specs.Worlds.{nothing_met}
-use Rattle.mf_machine.specs.Exhibits.{kind, Each, SomeRun, Breaks, EachBreaks}
+use Rattle.mf_machine.specs.Exhibits.{Occurs, Exhibits, SomeRun, Breaks, EachBreaks}
 use Rattle.mf_machine.specs.File.Home.{away, empty, keeps}
 use Rattle.mf_machine.specs.Kept as kept
 use Rattle.mf_machine.specs.Moves as move
-use Rattle.mf_machine.proofs.Words.{cell_here}
+use Rattle.mf_machine.proofs.Guards.{runs_if, false_true}
 
--- two generations and four names: name 0 is held by both, names 1 and 3 by generation 0, name 2 by generation 1. Line 7 takes the servers of names 0 and 3
+-- two generations and four names: name 0 is held by both, names 1 and 3 by generation 0, name 2 by generation 1. Line 7 takes the servers of names 0, 1 and 3
 abbrev file : File
 file = record {
   stages = 2;
@@ -24,14 +24,11 @@ file = record {
   holds = λ g n. cond (eqb n 0) true (cond (eqb n 3) (eqb g 0) (eqb (g + 1) n));
   server = λ n. n;
   cell = λ n. n ∷ [];
-  losses = (record { line = 7; server = 0 }) ∷ (record { line = 7; server = 3 }) ∷ [];
+  losses = (record { line = 7; server = 0 }) ∷ (record { line = 7; server = 1 }) ∷ (record { line = 7; server = 3 }) ∷ [];
 }
 
 abbrev start : Opening
 start = record { number = 0; closed = λ _. false; name = λ _. 0; home = λ _. empty }
-
-false_true : false ≡ true → ⊥
-false_true e = cc
 
 rest : Rest file start
 rest = record {
@@ -83,376 +80,88 @@ opened = record {
     homes_empty (suc (suc (suc zero))) l = refl
     homes_empty (suc (suc (suc (suc n)))) l = absurd (omega arith)
 
-settled_first : (n : ℕ) → n < 4 → Holds file 0 n → 0 < times n (3 ∷ 1 ∷ 0 ∷ [])
-settled_first zero l h = omega arith
-settled_first (suc zero) l h = omega arith
-settled_first (suc (suc zero)) l h = absurd (false_true h)
-settled_first (suc (suc (suc zero))) l h = omega arith
-settled_first (suc (suc (suc (suc n)))) l h = absurd (omega arith)
-
-settled_second : (n : ℕ) → n < 4 → Holds file 1 n → 0 < times n (0 ∷ 0 ∷ 2 ∷ 3 ∷ 1 ∷ 0 ∷ [])
-settled_second zero l h = omega arith
-settled_second (suc zero) l h = absurd (false_true h)
-settled_second (suc (suc zero)) l h = omega arith
-settled_second (suc (suc (suc zero))) l h = absurd (false_true h)
-settled_second (suc (suc (suc (suc n)))) l h = absurd (omega arith)
-
-shown_one : (g : ℕ) → g < 2 → Holds file g 1 → 0 < times g (0 ∷ []) + times g []
-shown_one zero l h = omega arith
-shown_one (suc zero) l h = absurd (false_true h)
-shown_one (suc (suc g)) l h = absurd (omega arith)
-
-shown_three : (g : ℕ) → g < 2 → Holds file g 3 → 0 < times g (0 ∷ []) + times g []
-shown_three zero l h = omega arith
-shown_three (suc zero) l h = absurd (false_true h)
-shown_three (suc (suc g)) l h = absurd (omega arith)
-
--- the first actor builds both generations, and reclaims the first one; the second reads, and loses two chunks
+-- the first actor builds both generations, and reclaims the first one; the second one helps, loses chunks, and removes the file
 abbrev moves : List Move
-moves = by 0 move.split ∷ by 0 move.begin ∷ by 1 move.begin ∷ by 0 move.look ∷ by 0 (move.see 0) ∷ by 0 (move.see 1) ∷ by 0 (move.see 3) ∷ by 0 (move.birth 0) ∷ by 0 (move.exchange (keeps (0 ∷ []))) ∷ by 0 (move.born 0) ∷ by 0 (move.birth 1) ∷ by 0 (move.exchange (keeps (1 ∷ []))) ∷ by 0 (move.born 1) ∷ by 0 (move.birth 3) ∷ by 0 (move.exchange (keeps (3 ∷ []))) ∷ by 0 (move.born 3) ∷ by 0 (move.publish 1) ∷ by 1 move.look ∷ by 1 (move.pin Work 0) ∷ by 1 (move.see 0) ∷ by 1 (move.take 0) ∷ by 1 (move.give 0) ∷ by 0 (move.see 2) ∷ by 0 (move.birth 2) ∷ by 0 (move.exchange (keeps (2 ∷ []))) ∷ by 0 (move.born 2) ∷ by 1 (move.lose 0 7) ∷ by 1 (move.exchange empty) ∷ by 1 (move.lost 0 7) ∷ by 0 (move.see 0) ∷ by 0 (move.retake 0) ∷ by 0 (move.exchange (keeps (0 ∷ []))) ∷ by 0 (move.restored 0) ∷ by 0 (move.publish 2) ∷ by 0 (move.close 0) ∷ by 1 (move.unpin Work 0) ∷ by 0 (move.close 0) ∷ by 1 (move.pin Work 0) ∷ by 0 (move.drop 1) ∷ by 0 (move.exchange empty) ∷ by 0 (move.dropped 1) ∷ by 1 (move.lose 3 7) ∷ by 1 (move.exchange empty) ∷ by 1 (move.lost 3 7) ∷ by 0 (move.drop 3) ∷ by 0 (move.drop_again 3) ∷ by 0 move.end ∷ by 0 (move.join 1) ∷ []
+moves = by 0 move.split ∷ by 1 move.begin ∷ by 0 move.begin ∷ by 1 move.end ∷ by 0 move.begin ∷ by 0 move.look ∷ by 0 (move.see 0) ∷
+    by 0 (move.see 1) ∷ by 0 (move.see 3) ∷ by 0 (move.birth 0) ∷ by 1 move.look ∷ by 0 (move.exchange (keeps (0 ∷ []))) ∷ by 0 (move.born 0) ∷
+    by 0 (move.birth 1) ∷ by 0 (move.exchange (keeps (1 ∷ []))) ∷ by 0 (move.born 1) ∷ by 0 (move.birth 3) ∷
+    by 0 (move.exchange (keeps (3 ∷ []))) ∷ by 0 (move.born 3) ∷ by 1 (move.lose 0 7) ∷ by 0 (move.see 0) ∷ by 1 (move.exchange empty) ∷
+    by 1 (move.lost 0 7) ∷ by 0 (move.see 0) ∷ by 0 (move.retake 0) ∷ by 0 (move.exchange (keeps (0 ∷ []))) ∷ by 0 (move.restored 0) ∷
+    by 0 (move.publish 1) ∷ by 0 (move.pin Hold 0) ∷ by 0 (move.pin Work 0) ∷ by 1 move.look ∷ by 1 (move.pin Work 0) ∷ by 0 (move.take 0) ∷
+    by 1 (move.take 0) ∷ by 1 (move.lose 0 7) ∷ by 0 (move.give 0) ∷ by 0 (move.lose 0 7) ∷ by 0 (move.exchange empty) ∷ by 0 (move.lost 0 7) ∷
+    by 0 (move.lose 0 7) ∷ by 0 (move.take 0) ∷ by 0 (move.lose 1 7) ∷ by 0 (move.exchange empty) ∷ by 0 (move.lost 1 7) ∷ by 0 (move.see 1) ∷
+    by 0 (move.retake 1) ∷ by 0 (move.exchange (keeps (1 ∷ []))) ∷ by 0 (move.restored 1) ∷ by 0 (move.see 2) ∷ by 0 (move.birth 2) ∷
+    by 0 (move.exchange (keeps (2 ∷ []))) ∷ by 0 (move.born 2) ∷ by 0 (move.retake 0) ∷ by 0 (move.exchange (keeps (0 ∷ []))) ∷
+    by 0 (move.restored 0) ∷ by 0 (move.publish 2) ∷ by 0 (move.close 0) ∷ by 0 (move.unpin Hold 0) ∷ by 0 (move.unpin Work 0) ∷
+    by 1 (move.unpin Work 0) ∷ by 0 (move.close 0) ∷ by 0 (move.close 0) ∷ by 0 move.look ∷ by 0 move.end ∷ by 1 move.begin ∷ by 1 move.look ∷
+    by 1 (move.publish 3) ∷ by 1 (move.close 1) ∷ by 0 (move.pin Work 1) ∷ by 1 (move.close 0) ∷ by 1 (move.lose 3 7) ∷
+    by 1 (move.exchange empty) ∷ by 1 (move.lost 3 7) ∷ by 0 (move.drop 3) ∷ by 1 (move.drop 3) ∷ by 0 (move.drop_again 3) ∷
+    by 1 (move.drop_again 3) ∷ by 0 (move.drop 1) ∷ by 0 (move.exchange empty) ∷ by 0 (move.dropped 1) ∷ by 0 (move.drop 1) ∷ by 1 move.end ∷
+    by 0 (move.join 1) ∷ []
 
 moves_run : Runs file first moves
-moves_run = (
-  omega arith,
-  (
-    (omega arith, refl, refl),
-    (
-      (omega arith, refl, refl),
-      (
-        (omega arith, refl),
-        (
-          (
-            omega arith,
-            refl,
-            omega arith,
-            inr (
-              0,
-              (refl, refl, refl, omega arith),
-              refl,
-            ),
-          ),
-          (
-            (omega arith, refl, omega arith, inr (0, (refl, refl, refl, omega arith), refl)),
-            (
-              (
-                omega arith,
-                refl,
-                omega arith,
-                inr (0, (refl, refl, refl, omega arith), refl),
-              ),
-              (
-                (
-                  omega arith,
-                  refl,
-                  omega arith,
-                  (0, (refl, refl, refl, omega arith), refl),
-                  omega arith,
-                ),
-                (
-                  ((omega arith, omega arith), λ e. cc),
-                  (
-                    ((omega arith, refl), cell_here file 0 (keeps (0 ∷ [])) refl),
-                    (
-                      (
-                        omega arith,
-                        refl,
-                        omega arith,
-                        (0, (refl, refl, refl, omega arith), refl),
-                        omega arith,
-                      ),
-                      (
-                        ((omega arith, omega arith), λ e. cc),
-                        (
-                          (
-                            (omega arith, refl),
-                            cell_here file 1 (keeps (1 ∷ [])) refl,
-                          ),
-                          (
-                            (omega arith, refl, omega arith, (0, (refl, refl, refl, omega arith), refl), omega arith),
-                            (
-                              ((omega arith, omega arith), λ e. cc),
-                              (
-                                ((omega arith, refl), cell_here file 3 (keeps (3 ∷ [])) refl),
-                                (
-                                  (
-                                    omega arith,
-                                    refl,
-                                    refl,
-                                    refl,
-                                    (
-                                      0,
-                                      refl,
-                                      inl (refl, omega arith, settled_first),
-                                    ),
-                                  ),
-                                  (
-                                    (omega arith, refl),
-                                    (
-                                      (omega arith, refl, omega arith, refl, refl, refl),
-                                      (
-                                        (
-                                          omega arith,
-                                          refl,
-                                          omega arith,
-                                          inl (0, omega arith, omega arith, refl),
-                                        ),
-                                        (
-                                          (omega arith, refl, omega arith, (0, omega arith, omega arith, refl)),
-                                          (
-                                            (
-                                              (
-                                                omega arith,
-                                                refl,
-                                              ),
-                                              cell_here file 0 (keeps (0 ∷ [])) refl,
-                                            ),
-                                            (
-                                              (omega arith, refl, omega arith, inr (1, (refl, refl, refl, omega arith), refl)),
-                                              (
-                                                (
-                                                  omega arith,
-                                                  refl,
-                                                  omega arith,
-                                                  (1, (refl, refl, refl, omega arith), refl),
-                                                  omega arith,
-                                                ),
-                                                (
-                                                  ((omega arith, omega arith), λ e. cc),
-                                                  (
-                                                    (
-                                                      (omega arith, refl),
-                                                      cell_here file 2 (keeps (2 ∷ [])) refl,
-                                                    ),
-                                                    (
-                                                      (omega arith, refl, omega arith, omega arith),
-                                                      (
-                                                        ((omega arith, omega arith), λ e. cc),
-                                                        (
-                                                          (
-                                                            (
-                                                              omega arith,
-                                                              refl,
-                                                              refl,
-                                                              omega arith,
-                                                            ),
-                                                            refl,
-                                                          ),
-                                                          (
-                                                            (omega arith, refl, omega arith, inr (1, (refl, refl, refl, omega arith), refl)),
-                                                            (
-                                                              (
-                                                                omega arith,
-                                                                refl,
-                                                                omega arith,
-                                                                (refl, inr (1, (refl, refl, refl, omega arith), refl)),
-                                                                omega arith,
-                                                              ),
-                                                              (
-                                                                ((omega arith, omega arith), λ e. cc),
-                                                                (
-                                                                  (
-                                                                    (omega arith, refl),
-                                                                    cell_here file 0 (keeps (0 ∷ [])) refl,
-                                                                  ),
-                                                                  (
-                                                                    (omega arith, refl, refl, refl, (1, refl, inl (refl, omega arith, settled_second))),
-                                                                    (
-                                                                      (
-                                                                        omega arith,
-                                                                        refl,
-                                                                        omega arith,
-                                                                        omega arith,
-                                                                      ),
-                                                                      (
-                                                                        (omega arith, refl, refl),
-                                                                        (
-                                                                          (omega arith, refl, omega arith, omega arith),
-                                                                          (
-                                                                            (
-                                                                              omega arith,
-                                                                              refl,
-                                                                              omega arith,
-                                                                              refl,
-                                                                              refl,
-                                                                              refl,
-                                                                            ),
-                                                                            (
-                                                                              (omega arith, refl, omega arith, shown_one),
-                                                                              (
-                                                                                ((omega arith, omega arith), λ e. cc),
-                                                                                (
-                                                                                  ((omega arith, refl), refl),
-                                                                                  (
-                                                                                    (omega arith, refl, omega arith, omega arith),
-                                                                                    (
-                                                                                      ((omega arith, omega arith), λ e. cc),
-                                                                                      (
-                                                                                        ((omega arith, refl, refl, omega arith), refl),
-                                                                                        (
-                                                                                          (
-                                                                                            omega arith,
-                                                                                            refl,
-                                                                                            omega arith,
-                                                                                            shown_three,
-                                                                                          ),
-                                                                                          (
-                                                                                            (omega arith, refl),
-                                                                                            (
-                                                                                              (omega arith, refl, refl),
-                                                                                              (
-                                                                                                (
-                                                                                                  (λ e. omega arith),
-                                                                                                  (
-                                                                                                    omega arith,
-                                                                                                    omega arith,
-                                                                                                    refl,
-                                                                                                    refl,
-                                                                                                    refl,
-                                                                                                    refl,
-                                                                                                  ),
-                                                                                                ),
-                                                                                                tt,
-                                                                                              ),
-                                                                                            ),
-                                                                                          ),
-                                                                                        ),
-                                                                                      ),
-                                                                                    ),
-                                                                                  ),
-                                                                                ),
-                                                                              ),
-                                                                            ),
-                                                                          ),
-                                                                        ),
-                                                                      ),
-                                                                    ),
-                                                                  ),
-                                                                ),
-                                                              ),
-                                                            ),
-                                                          ),
-                                                        ),
-                                                      ),
-                                                    ),
-                                                  ),
-                                                ),
-                                              ),
-                                            ),
-                                          ),
-                                        ),
-                                      ),
-                                    ),
-                                  ),
-                                ),
-                              ),
-                            ),
-                          ),
-                        ),
-                      ),
-                    ),
-                  ),
-                ),
-              ),
-            ),
-          ),
-        ),
-      ),
-    ),
-  ),
-)
+moves_run = runs_if file first moves refl
 
-each_kind : Each 19 (map kind moves)
-each_kind = (
-  omega arith,
-  (
+-- what is so at the place i of the run occurs in it
+occurs : (P : World → ℕ → Deed → Type 0) (i : ℕ) (m : Move) → moves ≡ take i moves ++ m ∷ drop (suc i) moves
+    → P (run file first (take i moves)) m.who m.does → Occurs P file first moves
+occurs P i m are so = record { before = take i moves; next = m; later = drop (suc i) moves; are = are; so = so }
+
+abbrev final : View
+final = actor (run file first moves) 0
+
+-- at that retake the next generation doesn't hold the name
+not_next : let w : World = run file first (take 45 moves) in NextHolds file (actor w 0).build (actor w 0).last 1 → ⊥
+not_next n = let e = n.1.2 in let same : n.0 ≡ 1 = omega arith in false_true (subst (λ g. Holds file g 1) same n.2)
+
+exhibits : Exhibits file first moves
+exhibits = record {
+  slots = occurs _ 32 (by 0 (move.take 0)) refl (0, 0, refl, refl);
+  pin_false = occurs _ 68 (by 0 (move.pin Work 1)) refl (1, refl, refl);
+  unpinned = (occurs _ 57 (by 0 (move.unpin Hold 0)) refl (0, refl), occurs _ 58 (by 0 (move.unpin Work 0)) refl (0, refl));
+  close_done = occurs _ 60 (by 0 (move.close 0)) refl (0, refl, refl);
+  close_pins = occurs _ 56 (by 0 (move.close 0)) refl (0, 3, refl, refl, omega arith);
+  close_already = occurs _ 61 (by 0 (move.close 0)) refl (0, refl, refl);
+  begin_false = occurs _ 2 (by 0 move.begin) refl (refl, refl);
+  ended = occurs _ 3 (by 1 move.end) refl refl;
+  looked = occurs _ 5 (by 0 move.look) refl refl;
+  removes = occurs _ 66 (by 1 (move.publish 3)) refl refl;
+  see_unborn = occurs _ 6 (by 0 (move.see 0)) refl (0, refl, refl);
+  see_lost = occurs _ 23 (by 0 (move.see 0)) refl (0, 7, refl, refl);
+  between = occurs _ 20 (by 0 (move.see 0)) refl (0, 1, refl, refl, λ e. omega arith, inr (inr (inl refl)));
+  take_chunk = occurs _ 32 (by 0 (move.take 0)) refl (0, refl, refl);
+  take_lost = occurs _ 40 (by 0 (move.take 0)) refl (0, 7, refl, refl);
+  take_again = occurs _ 33 (by 1 (move.take 0)) refl (0, refl, refl);
+  gives = occurs _ 35 (by 0 (move.give 0)) refl (0, refl);
+  in_birth = occurs _ 10 (by 1 move.look) refl (0, 0, refl, λ e. omega arith, refl);
+  by_work = occurs _ 45 (by 0 (move.retake 1)) refl (1, refl, not_next);
+  by_next = occurs _ 24 (by 0 (move.retake 0)) refl (0, refl, refl);
+  lose_done = occurs _ 19 (by 1 (move.lose 0 7)) refl (0, 7, refl, refl);
+  lose_nothing = occurs _ 39 (by 0 (move.lose 0 7)) refl (0, 7, refl, refl);
+  lose_again = occurs _ 34 (by 1 (move.lose 0 7)) refl (0, 7, refl, refl);
+  drop_here = occurs _ 77 (by 0 (move.drop 1)) refl (1, refl, refl);
+  drop_lost = occurs _ 73 (by 0 (move.drop 3)) refl (3, refl, refl);
+  drop_nothing = occurs _ 80 (by 0 (move.drop 1)) refl (1, refl, refl);
+  again_true = occurs _ 75 (by 0 (move.drop_again 3)) refl (3, refl, refl);
+  again_false = occurs _ 76 (by 1 (move.drop_again 3)) refl (3, refl, refl);
+  returns = (occurs _ 12 (by 0 (move.born 0)) refl (0, refl), occurs _ 26 (by 0 (move.restored 0)) refl (0, refl), occurs _ 79 (by 0 (move.dropped 1)) refl (1, refl), occurs _ 22 (by 1 (move.lost 0 7)) refl (0, 7, refl));
+  others = (occurs _ 0 (by 0 move.split) refl refl, occurs _ 82 (by 0 (move.join 1)) refl (1, refl));
+  last = (
+    final,
+    (refl, refl, refl, refl, refl, refl),
+    record {
+      gate = (omega arith, omega arith, omega arith, omega arith, omega arith, omega arith, omega arith, omega arith);
+      told = (omega arith, omega arith, omega arith);
+      changed = (omega arith, omega arith, omega arith, omega arith);
+      nothing = (omega arith, omega arith);
+    },
     omega arith,
-    (
-      omega arith,
-      (
-        omega arith,
-        (
-          omega arith,
-          (
-            omega arith,
-            (
-              omega arith,
-              (
-                omega arith,
-                (
-                  omega arith,
-                  (
-                    omega arith,
-                    (
-                      omega arith,
-                      (
-                        omega arith,
-                        (
-                          omega arith,
-                          (
-                            omega arith,
-                            (
-                              omega arith,
-                              (
-                                omega arith,
-                                (
-                                  omega arith,
-                                  (
-                                    omega arith,
-                                    (
-                                      omega arith,
-                                      tt,
-                                    ),
-                                  ),
-                                ),
-                              ),
-                            ),
-                          ),
-                        ),
-                      ),
-                    ),
-                  ),
-                ),
-              ),
-            ),
-          ),
-        ),
-      ),
-    ),
-  ),
-)
-
-abbrev last : View
-last = actor (run file first moves) 0
-
-abbrev other : Met
-other = get_or last.gone 0 nothing_met
+  );
+  names = ((0, omega arith, refl), (1, omega arith, refl));
+}
 
 pub some_run : SomeRun
-some_run = (
-  file,
-  start,
-  first,
-  moves,
-  rest,
-  opened,
-  moves_run,
-  each_kind,
-  (
-    last,
-    refl,
-    omega arith,
-    (other, inr (0, refl), omega arith),
-    (
-      other,
-      inr (0, refl),
-      omega arith,
-    ),
-    omega arith,
-    omega arith,
-    refl,
-    refl,
-  ),
-)
+some_run = (file, start, first, moves, rest, opened, moves_run, exhibits)
 
 -- states that break the rules
 abbrev state : ℕ → ℕ → (ℕ → ℕ) → (ℕ → ℕ) → List View → State

@@ -25,3 +25,4 @@ pub mod Tells
 pub mod Goes
 pub mod Told
 pub mod Fitting
+pub mod Guards

@@ -1,61 +1,111 @@
--- No rule is empty: a run in which every kind of step occurs, and for each rule a state that breaks it.
-use Rattle.std.specs.Prelude.{◌≡◌, ℕ, zero, suc, ◌<◌, List, map}
+-- No guard is too strong: a run in which each step is made and each answer given. No rule is empty: for each clause of
+-- the rules a state that breaks it.
+use Rattle.std.specs.Prelude.{◌≡◌, ◌≢◌, ℕ, ◌<◌, true, false, List, ◌∷◌, ◌++◌, length}
+use Rattle.mf_machine.specs.declared.answer.Closed.TheVariants as closing
+use Rattle.mf_machine.specs.declared.answer.LoseStep.TheVariants as losing
+use Rattle.mf_machine.specs.declared.answer.Slot.TheVariants.{Hold, Work}
+use Rattle.mf_machine.specs.declared.answer.State.TheVariants as told
 use Rattle.mf_machine.specs.declared.view.Met.{Met}
 use Rattle.mf_machine.specs.declared.view.View.{View}
-use Rattle.mf_machine.specs.Counts.{times, losses, foreign}
-use Rattle.mf_machine.specs.File.{File, Opening, State}
-use Rattle.mf_machine.specs.Kept.{IsActor, IsMetOf, Number, Pins, Born, Seen, Builder, Dropped, Losses, Cells}
-use Rattle.mf_machine.specs.Kept.{Accounted, Caused}
-use Rattle.mf_machine.specs.Moves.{Move, Deed, Runs, run}
+use Rattle.mf_machine.specs.Actors.{live, IsFreeSlot, IsPinnedOn, NextHolds}
+use Rattle.mf_machine.specs.File.{File, Opening, State, name_word, removed}
+use Rattle.mf_machine.specs.Kept.{IsInside, Number, Pins, Born, Seen, Builder, Dropped, Losses}
+use Rattle.mf_machine.specs.Kept.{Cells, Accounted, Caused}
+use Rattle.mf_machine.specs.Laws.{IsLast}
+use Rattle.mf_machine.specs.Moves.{Move, Deed, look, pin, unpin, close, begin, end, publish, see, take, give, born}
+use Rattle.mf_machine.specs.Moves.{lose, lost, retake, restored, drop, drop_again, dropped, split, join}
+use Rattle.mf_machine.specs.Moves.{Runs, run}
 use Rattle.mf_machine.specs.Rest.{Rest}
-use Rattle.mf_machine.specs.Worlds.{World, read, Opens}
-use Rattle.mf_machine.specs.Moves as move
+use Rattle.mf_machine.specs.Steps.{pin_answer, close_answer, begin_answer, see_answer, take_answer, chunk, gone, again}
+use Rattle.mf_machine.specs.Steps.{lose_answer, drop_answer, drops, tries, nothing, drop_again_answer}
+use Rattle.mf_machine.specs.Words as word
+use Rattle.mf_machine.specs.Words.{pins_word, right_word, filled}
+use Rattle.mf_machine.specs.Worlds.{World, Opens, read, word_of, actor}
 
--- the fourteen kinds of step in the order of their table, and the others after them
-abbrev pub kind_of : Deed → ℕ
-kind_of move.look = 0
-kind_of (move.pin slot g) = 1
-kind_of (move.unpin slot g) = 2
-kind_of (move.close g) = 3
-kind_of move.begin = 4
-kind_of move.end = 5
-kind_of (move.publish next) = 6
-kind_of (move.see n) = 7
-kind_of (move.birth n) = 8
-kind_of (move.take n) = 9
-kind_of (move.give n) = 10
-kind_of (move.lose n l) = 11
-kind_of (move.retake n) = 12
-kind_of (move.drop n) = 13
-kind_of (move.drop_again n) = 14
-kind_of (move.born n) = 15
-kind_of (move.lost n l) = 15
-kind_of (move.restored n) = 15
-kind_of (move.dropped n) = 15
-kind_of (move.exchange h) = 16
-kind_of move.split = 17
-kind_of (move.join other) = 18
+-- somewhere in the run, P holds of the world, of the actor and of what it does next
+pub record Occurs (P : World → ℕ → Deed → Type 0) (f : File) (w : World) (ms : List Move) : Type 0 where
+  pub before : List Move
+  pub next : Move
+  pub later : List Move
+  pub are : ms ≡ before ++ next ∷ later
+  pub so : P (run f w before) next.who next.does
 
-abbrev pub kind : Move → ℕ
-kind m = kind_of m.does
+-- somewhere the deed is done about some n
+abbrev pub Done : (ℕ → Deed) → File → World → List Move → Type 0
+Done deed f w ms = Occurs (λ s id d. (n : ℕ) × (d ≡ deed n)) f w ms
 
--- each number below n stands in the list
-abbrev pub Each : ℕ → List ℕ → Type 0
-Each zero xs = Unit {0}
-Each (suc n) xs = (0 < times n xs) × Each n xs
+-- somewhere the deed is done about some n, and its answer to what it meets in the word of n is a
+abbrev pub Answered : {A : Type 0} → (ℕ → Deed) → (ℕ → ℕ) → (ℕ → A) → A → File → World → List Move → Type 0
+Answered deed place answer a f w ms =
+    Occurs (λ s id d. (n : ℕ) × (d ≡ deed n) × (answer (word_of s (place n)) ≡ a)) f w ms
 
--- a run from a file at rest in which each kind of step and of move occurs. At its end the first actor, which has taken
--- in the others, has a close of generation 0 that met another's pin; a begin was refused; a pin fell on generation 0
--- once it was closed; name 0 was lost and restored and is Here; and name 1 is Dropped
+-- each list of the Met has an entry
+pub record Full (m : Met) : Type 0 where
+  pub gate : (0 < length m.numbers) × (0 < m.begun) × (0 < m.refused) × (0 < length m.opened) × (0 < length m.missed)
+      × (0 < length m.closed) × (0 < length m.already) × (0 < length m.pinned)
+  pub told : (0 < length m.unborn) × (0 < length m.here) × (0 < length m.lost)
+  pub changed : (0 < length m.put) × (0 < length m.restored) × (0 < length m.made_lost) × (0 < length m.dropped)
+  pub nothing : (0 < length m.not_lost) × (0 < length m.not_dropped)
+
+-- what occurs in the run
+pub record Exhibits (f : File) (w : World) (ms : List Move) : Type 0 where
+  -- both slots of an actor pinned at once, and a pin on a closed generation
+  pub slots : Occurs (λ s id d. (g h : ℕ) × IsPinnedOn g Hold (actor s id) × IsPinnedOn h Work (actor s id)) f w ms
+  pub pin_false : Answered (pin Work) pins_word pin_answer false f w ms
+  pub unpinned : Done (unpin Hold) f w ms × Done (unpin Work) f w ms
+  -- a close of a generation without pins, one that met another's pins, and one of a closed generation
+  pub close_done : Answered close pins_word close_answer closing.Done f w ms
+  pub close_pins : Occurs (λ s id d. (g n : ℕ) × (d ≡ close g) × (close_answer (word_of s (pins_word g)) ≡ closing.Pins n)
+      × (live g (actor s id) < n)) f w ms
+  pub close_already : Answered close pins_word close_answer closing.Already f w ms
+  -- the right refused and given back, a look, and the file removed
+  pub begin_false : Occurs (λ s id d. (d ≡ begin) × (begin_answer (word_of s right_word) ≡ false)) f w ms
+  pub ended : Occurs (λ s id d. d ≡ end) f w ms
+  pub looked : Occurs (λ s id d. d ≡ look) f w ms
+  pub removes : Occurs (λ s id d. d ≡ publish (removed f)) f w ms
+  -- a see told Unborn, Lost, and Here, the latter while another actor is inside of the very name
+  pub see_unborn : Answered see (name_word f) see_answer told.Unborn f w ms
+  pub see_lost : Occurs (λ s id d. (n l : ℕ) × (d ≡ see n) × (see_answer (word_of s (name_word f n)) ≡ told.Lost l)) f w ms
+  pub between : Occurs (λ s id d. (n j : ℕ) × (d ≡ see n) × (see_answer (word_of s (name_word f n)) ≡ told.Here)
+      × (j ≢ id) × IsInside (actor s j) n) f w ms
+  -- a take with the chunk, Lost and Again, and a give
+  pub take_chunk : Answered take (name_word f) take_answer chunk f w ms
+  pub take_lost : Occurs (λ s id d. (n l : ℕ) × (d ≡ take n) × (take_answer (word_of s (name_word f n)) ≡ gone l)) f w ms
+  pub take_again : Answered take (name_word f) take_answer again f w ms
+  pub gives : Done give f w ms
+  -- a birth, while another actor makes a step; and a retake by the Work pin alone, and one by the next generation alone
+  pub in_birth : Occurs (λ s id d. (n j : ℕ) × (d ≡ look) × (j ≢ id) × ((actor s j).inside.bearing ≡ filled n)) f w ms
+  pub by_work : Occurs (λ s id d. (n : ℕ) × (d ≡ retake n)
+      × (NextHolds f (actor s id).build (actor s id).last n → ⊥)) f w ms
+  pub by_next : Occurs (λ s id d. (n : ℕ) × (d ≡ retake n) × IsFreeSlot Work (actor s id)) f w ms
+  -- a lose answered Done, Nothing and Again
+  pub lose_done : Occurs (λ s id d. (n l : ℕ) × (d ≡ lose n l)
+      × (lose_answer (word_of s (name_word f n)) ≡ losing.Done)) f w ms
+  pub lose_nothing : Occurs (λ s id d. (n l : ℕ) × (d ≡ lose n l)
+      × (lose_answer (word_of s (name_word f n)) ≡ losing.Nothing)) f w ms
+  pub lose_again : Occurs (λ s id d. (n l : ℕ) × (d ≡ lose n l)
+      × (lose_answer (word_of s (name_word f n)) ≡ losing.Again)) f w ms
+  -- a drop from Here, one from Lost, one that met nothing to drop, and a second try that failed
+  pub drop_here : Answered drop (name_word f) drop_answer drops f w ms
+  pub drop_lost : Answered drop (name_word f) drop_answer tries f w ms
+  pub drop_nothing : Answered drop (name_word f) drop_answer nothing f w ms
+  pub again_true : Occurs (λ s id d. (n : ℕ) × (d ≡ drop_again n)
+      × (drop_again_answer (actor s id).inside.tried (word_of s (name_word f n)) ≡ true)) f w ms
+  pub again_false : Occurs (λ s id d. (n : ℕ) × (d ≡ drop_again n)
+      × (drop_again_answer (actor s id).inside.tried (word_of s (name_word f n)) ≡ false)) f w ms
+  -- the four returns, an exchange, a split and a join
+  pub returns : Done born f w ms × Done restored f w ms × Done dropped f w ms
+      × Occurs (λ s id d. (n l : ℕ) × (d ≡ lost n l)) f w ms
+  pub others : Occurs (λ s id d. d ≡ split) f w ms × Done join f w ms
+  -- at the end one actor is left, with the whole share; it took in another, and its own Met has each kind of answer;
+  -- some name is Here, and some is Dropped
+  pub last : (v : View) × IsLast (read f (run f w ms)) 0 v × Full v.own × (0 < length v.gone)
+  pub names : ((n : ℕ) × (n < f.names) × ((read f (run f w ms)).name n ≡ word.here))
+      × ((n : ℕ) × (n < f.names) × ((read f (run f w ms)).name n ≡ word.dropped))
+
 abbrev pub SomeRun : Type 0
 SomeRun = (f : File) × (k : Opening) × (first : World) × (ms : List Move)
-    × Rest f k × Opens f k first × Runs f first ms × Each 19 (map kind ms)
-    × ((v : View) × IsActor (read f (run f first ms)) 0 v
-    × (0 < foreign 0 v.own.pinned)
-    × ((m : Met) × IsMetOf v m × (0 < m.refused))
-    × ((m : Met) × IsMetOf v m × (0 < times 0 m.missed))
-    × (0 < losses 0 v.made.changes.lost) × (0 < times 0 v.made.changes.restored)
-    × ((read f (run f first ms)).name 0 ≡ 1) × ((read f (run f first ms)).name 1 ≡ 3))
+    × Rest f k × Opens f k first × Runs f first ms × Exhibits f first ms
 
 -- some state breaks the rule
 abbrev pub Breaks : (File → Opening → State → Type 0) → Type 0

@@ -1,0 +1,11 @@
+//! Changes of a file: creating it, converting it to its next stage, and removing it.
+#![tactic(auto)]
+
+mod cells;
+mod change;
+mod creating;
+mod removing;
+
+pub use change::Change;
+pub use creating::create;
+pub use removing::remove;

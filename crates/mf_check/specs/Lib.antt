@@ -1,4 +1,4 @@
--- What is promised of families: Families, Faults, Sets. Search has the words of private functions.
+-- What is promised of families: Families, Faults, Sets. Search is what private functions cite.
 pub mod Sets
 pub mod Families
 pub mod Faults

@@ -31,7 +31,7 @@ unfolding sum_below
 sum_below-lt zero f h = omega arith
 sum_below-lt (suc n) f h = xor_lt 8 (sum_below n f) (f n) (sum_below-lt n f (λ i lt. h i (omega arith))) (h n (omega arith))
 
--- a sum taken apart at a place
+-- a sum taken apart at an index
 pub sum_below-add : (m n : ℕ) (f : ℕ → ℕ) → sum_below (m + n) f ≡ bit_xor (sum_below m f) (sum_below n (λ i. f (m + i)))
 unfolding sum_below
 sum_below-add m zero f = ap (λ (k : ℕ). sum_below k f) (add-zero m) ∙ sym (xor_zero_r (sum_below m f))

@@ -2,15 +2,14 @@
 use Rattle.std.specs.Prelude.{ℕ, zero, suc, ◌+◌, ◌*◌, ◌^◌, ◌==◌, if◌then◌else◌, bit_xor}
 use Rattle.std.specs.Int.{bit_at}
 
--- The carry-less product of a and the n lowest bits of b: the exclusive or of a, shifted to each place below n where b
--- has a one.
+-- The carry-less product of a and the n lowest bits of b: the exclusive or of a, shifted by each i below n where b
+-- has bit i.
 unfoldable pub carryless : ℕ → ℕ → ℕ → ℕ
 carryless zero a b = 0
 carryless (suc n) a b = bit_xor (carryless n a b) (if bit_at b n == 1 then a * 2 ^ n else 0)
 
--- The remainder by 0x11D of a number below 2 ^ (n + 8), taken by n shifts: from the highest place down, 0x11D is
--- shifted so that its highest one, of place 8, comes to place n + 8, and is taken off by exclusive or where the number
--- has a one there.
+-- The remainder by 0x11D of a number below 2 ^ (n + 8), taken by n shifts: from the highest bit down, 0x11D is shifted
+-- so that its highest bit, bit 8, comes to bit n + 8, and is taken off by exclusive or where the number has that bit.
 unfoldable pub remainder : ℕ → ℕ → ℕ
 remainder zero p = p
 remainder (suc n) p = remainder n (if bit_at p (n + 8) == 1 then bit_xor p (0x11D * 2 ^ n) else p)

@@ -9,7 +9,7 @@ use Rattle.mf_code.specs.Sums.{weighted}
 abbrev pub list_of : ℕ → (ℕ → ℕ) → List ℕ
 list_of n f = map f (range_with_len 0 n)
 
--- Each byte of ys with the byte of xs at its place added, for lists of one length.
+-- Each byte of ys with the byte of xs at its index added, for lists of one length.
 abbrev pub added : List ℕ → List ℕ → List ℕ
 added ys xs = zip2 bit_xor ys xs
 
@@ -17,7 +17,7 @@ added ys xs = zip2 bit_xor ys xs
 abbrev pub scaled : ℕ → List ℕ → List ℕ
 scaled c xs = map (times c) xs
 
--- Each byte of ys with c times the byte of xs at its place added, for lists of one length.
+-- Each byte of ys with c times the byte of xs at its index added, for lists of one length.
 abbrev pub added_scaled : List ℕ → ℕ → List ℕ → List ℕ
 added_scaled ys c xs = zip2 (λ y x. bit_xor y (times c x)) ys xs
 

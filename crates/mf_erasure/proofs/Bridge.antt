@@ -10,7 +10,7 @@ use Rattle.mf_lemmas.proofs.Lists.{contains_at, at_contains, rising_differ, find
 use Rattle.mf_code.specs.Field.{times, power}
 use Rattle.mf_code.specs.Sums.{sum_below, weighted}
 use Rattle.mf_code.specs.Rows.{list_of}
-use Rattle.mf_code.specs.Decodable.{word, IsData, AgreeOutside, IsDecodableAt}
+use Rattle.mf_code.specs.Decodable.{codeword, IsData, AgreeOutside, IsDecodableAt}
 use Rattle.mf_code.proofs.Sums.{sum_below-same, sum_below-zero, sum_below_xor}
 use Rattle.mf_code.proofs.Lists.{length-list_of, list_of_at, list_of_from}
 use Rattle.mf_field.proofs.FieldLaws.{times_add, times-zero}
@@ -33,38 +33,38 @@ weighted_list_of width point f =
     weighted_over width point (list_of width f) (length-list_of width f)
     ∙ sum_below-same width (λ t. times (power point t) (get_or (list_of width f) t 0)) (λ t. times (power point t) (f t)) (λ t l. ap (times (power point t)) (list_of_at width f t l))
 
--- a word's bytes: the data, and then the parities
-pub word_data : (width : ℕ) (points d : List ℕ) (t : ℕ) → length d ≡ width → t < width → get_or (word points d) t 0 ≡ get_or d t 0
-word_data width points d t len lt = get_or_append_left d (map (λ point. weighted point d) points) 0 t (omega arith)
+-- a codeword's bytes: the data, and then the parities
+pub codeword_data : (width : ℕ) (points d : List ℕ) (t : ℕ) → length d ≡ width → t < width → get_or (codeword points d) t 0 ≡ get_or d t 0
+codeword_data width points d t len lt = get_or_append_left d (map (λ point. weighted point d) points) 0 t (omega arith)
 
-pub word_parity : (width : ℕ) (points d : List ℕ) (p : ℕ) → length d ≡ width → p < length points → get_or (word points d) (width + p) 0 ≡ weighted (get_or points p 0) d
-word_parity width points d p len lt =
+pub codeword_parity : (width : ℕ) (points d : List ℕ) (p : ℕ) → length d ≡ width → p < length points → get_or (codeword points d) (width + p) 0 ≡ weighted (get_or points p 0) d
+codeword_parity width points d p len lt =
     get_or-append_right d (map (λ point. weighted point d) points) width (width + p) 0 len (omega arith)
     ∙ ap (λ (i : ℕ). get_or (map (λ point. weighted point d) points) i 0) (let e : width + p - width ≡ p = omega arith in e)
     ∙ get_or-map (λ point. weighted point d) points p 0 0 lt
 
-pub length-word : (width : ℕ) (points d : List ℕ) → length d ≡ width → length (word points d) ≡ width + length points
-length-word width points d len = length-append d (map (λ point. weighted point d) points) ∙ ap₂ (λ (a b : ℕ). a + b) len (length-map points (λ point. weighted point d))
+pub length-codeword : (width : ℕ) (points d : List ℕ) → length d ≡ width → length (codeword points d) ≡ width + length points
+length-codeword width points d len = length-append d (map (λ point. weighted point d) points) ∙ ap₂ (λ (a b : ℕ). a + b) len (length-map points (λ point. weighted point d))
 
--- words that agree at each data place outside the lost ones and at each kept parity agree outside the places
+-- codewords that agree at each data place outside the lost ones and at each kept parity agree outside the places
 pub agree_from : (width : ℕ) (points places lost kept d e : List ℕ) → Splits width (length points) places lost kept → length d ≡ width → length e ≡ width
     → ((t : ℕ) → t < width → ((j : ℕ) → j < length lost → get_or lost j 0 ≢ t) → get_or d t 0 ≡ get_or e t 0)
     → ((i : ℕ) → i < length kept → weighted (get_or points (get_or kept i 0) 0) d ≡ weighted (get_or points (get_or kept i 0) 0) e)
-    → AgreeOutside places (word points d) (word points e)
+    → AgreeOutside places (codeword points d) (codeword points e)
 agree_from width points places lost kept d e s ld le same parities i lt out = elim (cases_lt i width) [
-  | inl low ↦ word_data width points d i ld low
+  | inl low ↦ codeword_data width points d i ld low
       ∙ same i low (λ j l is. out (subst (Contains places) is (s.lost_in (get_or lost j 0) (at_contains lost j l))))
-      ∙ sym (word_data width points e i le low)
+      ∙ sym (codeword_data width points e i le low)
   | inr high ↦
-      (let len = length-word width points d ld in
+      (let len = length-codeword width points d ld in
       let p : ℕ = i - width in
       let there : i ≡ width + p = omega arith in
       let below : p < length points = omega arith in
       let k = contains_at kept p (s.parity_out p below (λ c. out (subst (Contains places) (sym there) c))) in
-      subst (λ (m : ℕ). get_or (word points d) m 0 ≡ get_or (word points e) m 0) (sym there)
-      (word_parity width points d p ld below
+      subst (λ (m : ℕ). get_or (codeword points d) m 0 ≡ get_or (codeword points e) m 0) (sym there)
+      (codeword_parity width points d p ld below
       ∙ subst (λ (q : ℕ). weighted (get_or points q 0) d ≡ weighted (get_or points q 0) e) k.2 (parities k.0 k.1)
-      ∙ sym (word_parity width points e p le below)))
+      ∙ sym (codeword_parity width points e p le below)))
 ]
 
 -- Where the places are decodable, the matrix sends only the zero list to zero.
@@ -116,7 +116,7 @@ decodable_from_only_zero width points places lost kept s only = record { one = �
     at : ℕ → ℕ
     at j = get_or lost j 0
 
-    same : (d e : List ℕ) → IsData width d → IsData width e → AgreeOutside places (word points d) (word points e) → d ≡ e
+    same : (d e : List ℕ) → IsData width d → IsData width e → AgreeOutside places (codeword points d) (codeword points e) → d ≡ e
     same d e dd de agree =
         list_of_from width (λ t. get_or e t 0) d dd.len (λ t lt. equal_from_sum (get_or d t 0) (get_or e t 0) (difference-zero t lt))
         ∙ sym (list_of_from width (λ t. get_or e t 0) e de.len (λ t lt. refl))
@@ -135,9 +135,9 @@ decodable_from_only_zero width points places lost kept s only = record { one = �
             (λ found. ap difference (sym found.2) ∙ sym (spread-lost n at x found.0 found.1 (λ i l ne. rising_differ lost s.erasure.lost_places.rising i found.0 l found.1 ne))
             ∙ ap (spread n at x) found.2)
             (λ none. sum_from_equal (get_or d t 0) (get_or e t 0)
-            (sym (word_data width points d t dd.len lt)
-            ∙ agree t (let len = length-word width points d dd.len in omega arith) (λ c. (let k = contains_at lost t (s.data_in t lt c) in none k.0 k.1 k.2))
-            ∙ word_data width points e t de.len lt)
+            (sym (codeword_data width points d t dd.len lt)
+            ∙ agree t (let len = length-codeword width points d dd.len in omega arith) (λ c. (let k = contains_at lost t (s.data_in t lt c) in none k.0 k.1 k.2))
+            ∙ codeword_data width points e t de.len lt)
             ∙ sym (spread-other n at x t none))
             (find_in n at t)
 
@@ -164,9 +164,9 @@ decodable_from_only_zero width points places lost kept s only = record { one = �
 
             parity : weighted point d ≡ weighted point e
             parity =
-                sym (word_parity width points d p dd.len below)
-                ∙ agree (width + p) (let len = length-word width points d dd.len in let b = below in omega arith) (λ c. s.kept_out p (at_contains kept i inside) c)
-                ∙ word_parity width points e p de.len below
+                sym (codeword_parity width points d p dd.len below)
+                ∙ agree (width + p) (let len = length-codeword width points d dd.len in let b = below in omega arith) (λ c. s.kept_out p (at_contains kept i inside) c)
+                ∙ codeword_parity width points e p de.len below
 
         x-zero : (j : ℕ) → j < n → x j ≡ 0
         x-zero j lt = only x x-lt row j lt

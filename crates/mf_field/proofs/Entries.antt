@@ -25,7 +25,7 @@ pub powers_at : (e : ℕ) → e < 509 → get_or POWERS e 0 ≡ power 2 e
 unfolding power
 powers_at e lt = doubles_at 0 POWERS powers_double e lt ∙ ap (power 2) (let i : 0 + e ≡ e = omega arith in i)
 
--- the entries, of which the first stands for x, are places below 255 where the powers have x, x + 1 and so on
+-- the entries, of which the first stands for x, are indices below 255 at which the powers have x, x + 1 and so on
 finds : ℕ → List ℕ → Bool
 finds x [] = true
 finds x (e ∷ es) = nat_lt e 255 && (get_or POWERS e 0 == x && finds (x + 1) es)
@@ -64,7 +64,7 @@ exponents_at a pos la =
 
 -- ---- no exponent but the entry has the power
 
--- each place of the powers, from e on, is the entry of its power
+-- each element of the powers, from index e on, is the entry of its power
 returns_to : ℕ → List ℕ → Bool
 returns_to e [] = true
 returns_to e (x ∷ xs) = get_or EXPONENTS x 0 == e && returns_to (e + 1) xs

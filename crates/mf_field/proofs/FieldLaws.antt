@@ -129,7 +129,7 @@ inverts_each : every 255 inverts ≡ true
 unfolding every inverse squares times carryless remainder
 inverts_each = refl
 
--- the byte of the tests' place k - 1
+-- the byte of the tests at index k - 1
 inverts_at : (a : ℕ) → 0 < a → a < 256 → inverts (a - 1) ≡ true
 inverts_at a pos la = every_at 255 inverts inverts_each (a - 1) (omega arith)
 
@@ -169,12 +169,6 @@ times-eq-zero a b la lb e = elim (cases_eq a 0) [
 pub times-pos : (a b : ℕ) → 0 < a → a < 256 → 0 < b → b < 256 → 0 < times a b
 times-pos a b pa la pb lb = elim (cases_eq (times a b) 0) [
   | inl z ↦ elim (times-eq-zero a b la lb z) [ inl x ↦ absurd (omega arith) | inr y ↦ absurd (omega arith) ]
-  | inr n ↦ omega arith
-]
-
-pub inverse-pos : (a : ℕ) → 0 < a → a < 256 → 0 < inverse a
-inverse-pos a pos la = elim (cases_eq (inverse a) 0) [
-  | inl z ↦ absurd (let e : 0 ≡ 1 = sym (times-zero a) ∙ ap (times a) (sym z) ∙ times-inverse a pos la in omega arith)
   | inr n ↦ omega arith
 ]
 

@@ -6,10 +6,9 @@ use Rattle.std.proofs.lemmas.List.{get_or_past}
 use Rattle.mf_code.specs.Field.{times, power}
 use Rattle.mf_code.specs.Sums.{sum_below}
 use Rattle.mf_code.specs.Chunks.{chunk, chunk_count, parity_byte}
-use Rattle.mf_code.proofs.Sums.{sum_below-same, sum_below-zero, sum_below-lt}
+use Rattle.mf_code.proofs.Sums.{sum_below-same, sum_below-zero}
 use Rattle.mf_code.proofs.Lists.{length-chunk, chunk_at, parity_byte_by_place}
-use Rattle.mf_field.proofs.FieldLaws.{times-zero, times-lt}
-use Rattle.mf_field.proofs.Powers.{power-lt}
+use Rattle.mf_field.proofs.FieldLaws.{times-zero}
 use Rattle.mf_field.proofs.SumLaws.{merging, sum_below-front}
 
 -- the chunks reach the end of the file
@@ -57,12 +56,6 @@ parity_byte_past size file point width j x le =
     parity_byte_full size file point width j x
     ∙ sum_below-zero width (λ i. times (power point i) (get_or (chunk size file (j * width + i)) x 0))
     (λ i lt. ap (times (power point i)) (chunk_past size file (j * width + i) x (omega arith)) ∙ times-zero (power point i))
-
-pub parity_byte-lt : (size : ℕ) (file : List ℕ) (point width j x : ℕ) → point < 256 → ((i : ℕ) → get_or file i 0 < 256) → parity_byte size file point width j x < 256
-parity_byte-lt size file point width j x lp bytes =
-    subst (λ (v : ℕ). v < 256) (sym (parity_byte_full size file point width j x))
-    (sum_below-lt width (λ i. times (power point i) (get_or (chunk size file (j * width + i)) x 0))
-    (λ i lt. times-lt (power point i) (get_or (chunk size file (j * width + i)) x 0) (power-lt point i lp) (chunk-lt size file (j * width + i) x bytes)))
 
 -- the chunk of place b * k + i of wide stripe j is that of place i of narrow stripe j * n + b
 same_chunk : (n k j b i : ℕ) → (j * n + b) * k + i ≡ j * (n * k) + (b * k + i)

@@ -1,24 +1,12 @@
 -- The laws of powers.
 use Rattle.std.proofs.Common.{◌≡◌, ℕ, zero, suc, ◌+◌, ◌*◌, ◌<◌, refl, sym, ap, ◌∙◌, arith, add-zero, add-suc, mul-suc, mul-zero}
 use Rattle.mf_code.specs.Field.{times, power}
-use Rattle.mf_field.proofs.FieldLaws.{times-lt, times_comm, times_assoc, times-one, one-times, times-pos, times_swap}
-
-pub power-zero : (a : ℕ) → power a 0 ≡ 1
-unfolding power
-power-zero a = refl
-
-pub power-more : (a e : ℕ) → power a (e + 1) ≡ times (power a e) a
-unfolding power
-power-more a e = ap (λ (n : ℕ). power a n) (let i : e + 1 ≡ suc e = omega arith in i)
+use Rattle.mf_field.proofs.FieldLaws.{times-lt, times_assoc, times-one, one-times, times-pos, times_swap}
 
 pub power-lt : (a e : ℕ) → a < 256 → power a e < 256
 unfolding power
 power-lt a zero la = omega arith
 power-lt a (suc e) la = times-lt (power a e) a (power-lt a e la) la
-
-pub power-one : (a : ℕ) → a < 256 → power a 1 ≡ a
-unfolding power
-power-one a la = one-times a la
 
 pub power-pos : (a e : ℕ) → 0 < a → a < 256 → 0 < power a e
 unfolding power
@@ -39,10 +27,6 @@ unfolding power
 power-mul a m zero la = ap (power a) (mul-zero m)
 power-mul a m (suc n) la =
     ap (power a) (mul-suc m n) ∙ power-add a (m * n) m la ∙ ap (λ (v : ℕ). times v (power a m)) (power-mul a m n la)
-
-pub power_first : (a e : ℕ) → a < 256 → power a (suc e) ≡ times a (power a e)
-unfolding power
-power_first a e la = times_comm (power a e) a (power-lt a e la) la
 
 -- a power of a product
 pub power-times : (a b e : ℕ) → a < 256 → b < 256 → power (times a b) e ≡ times (power a e) (power b e)

@@ -1,4 +1,4 @@
--- Lists of numbers, place by place.
+-- Lists of numbers, index by index.
 use mathlib.Core.Logic.{dite}
 use native.Mathlib.Decide.{ℕ_discrete}
 use Rattle.std.proofs.Common.{◌≡◌, ◌≢◌, ℕ, zero, suc, ◌<◌, ◌⊎◌, List, [], ◌∷◌, length, map, get_or, refl, sym, ◌∙◌, ap₂, subst, inl, inr, ⊎_elim, arith}
@@ -8,14 +8,14 @@ use Rattle.std.proofs.lemmas.Bool.{cases_lt}
 use Rattle.std.proofs.lemmas.List.{get_or_default, get_or_past}
 use Rattle.std.proofs.lemmas.List.Kept.{AllPairs-from_increasing}
 
--- an element by its place
+-- an element by its index
 pub contains_at : (xs : List ℕ) (x : ℕ) → Contains xs x → (j : ℕ) × (j < length xs) × (get_or xs j 0 ≡ x)
 contains_at xs x c = (c.0, c.1, get_or_default xs c.0 0 x c.1 ∙ c.2)
 
 pub at_contains : (xs : List ℕ) (j : ℕ) → j < length xs → Contains xs (get_or xs j 0)
 at_contains xs j lt = (j, lt, get_or_default xs j (get_or xs j 0) 0 lt)
 
--- the places of a rising list differ
+-- the elements of a rising list differ
 pub rising_differ : (xs : List ℕ) → IsStrictlyIncreasing xs → (i j : ℕ) → i < length xs → j < length xs → i ≢ j → get_or xs i 0 ≢ get_or xs j 0
 rising_differ xs r i j li lj d = elim (cases_lt i j) [
   | inl low ↦ (let h : get_or xs i 0 < get_or xs j 0 = AllPairs-from_increasing xs r i j 0 low lj in λ e. omega arith)

@@ -15,16 +15,16 @@ grid_of rows columns room = record { rows = rows; columns = columns; entries = t
 pub bytes_of : (m n : Grid) → m ≡ n → IsGrid m → IsTable (entry n)
 bytes_of m n e grid i j = (let g : IsGrid n = subst IsGrid e grid in g).bytes (i * n.columns + j)
 
--- the place of an entry
-pub place_below : (rows columns row column : ℕ) → row < rows → column < columns → row * columns + column < rows * columns
-place_below rows columns row column low inside = omega (arith, mul-add-lt row columns column rows low inside, mul_comm columns rows)
+-- the index of an entry
+pub index_below : (rows columns row column : ℕ) → row < rows → column < columns → row * columns + column < rows * columns
+index_below rows columns row column low inside = omega (arith, mul-add-lt row columns column rows low inside, mul_comm columns rows)
 
 pub put_grid : (rows columns : ℕ) (room : List ℕ) (g : Grid) (row column value : ℕ) → grid_of rows columns room ≡ g → row < rows → column < columns
     → grid_of rows columns (set room (row * columns + column) value)
     ≡ record { rows = g.rows; columns = g.columns; entries = set g.entries (row * g.columns + column) value }
 put_grid rows columns room g row column value is low inside =
     ap (λ (xs : List ℕ). (let m : Grid = record { rows = rows; columns = columns; entries = xs } in m))
-    (take-set-lt (rows * columns) room (row * columns + column) value (place_below rows columns row column low inside))
+    (take-set-lt (rows * columns) room (row * columns + column) value (index_below rows columns row column low inside))
     ∙ ap (λ (m : Grid). (let n : Grid = record { rows = m.rows; columns = m.columns; entries = set m.entries (row * m.columns + column) value } in n)) is
 
 pub put_kept : (rows columns : ℕ) (room : List ℕ) (row column value : ℕ) → IsGrid (grid_of rows columns room) → row < rows → column < columns → value < 256
@@ -32,8 +32,8 @@ pub put_kept : (rows columns : ℕ) (room : List ℕ) (row column value : ℕ) �
 put_kept rows columns room row column value grid low inside byte =
     let n = rows * columns in
     let p = row * columns + column in
-    let made = take-set-lt n room p value (place_below rows columns row column low inside) in
-    let within : p < length (take n room) = omega (arith, grid.filled, place_below rows columns row column low inside) in
+    let made = take-set-lt n room p value (index_below rows columns row column low inside) in
+    let within : p < length (take n room) = omega (arith, grid.filled, index_below rows columns row column low inside) in
     record {
       few_rows = grid.few_rows;
       few_columns = grid.few_columns;
@@ -87,14 +87,14 @@ module _ (rows columns : ℕ) (f : ℕ → ℕ → ℕ) where
   filled_more i j value g h so_far low inside new is =
       let place : i * g.columns + j ≡ i * columns + j = ap (λ (n : ℕ). i * n + j) so_far.columns_are in
       let entries : h.entries ≡ set g.entries (i * columns + j) value = ap (λ (m : Grid). m.entries) is ∙ ap (λ (n : ℕ). set g.entries n value) place in
-      let within : i * columns + j < length g.entries = omega (arith, so_far.filled, place_below rows columns i j low inside) in
+      let within : i * columns + j < length g.entries = omega (arith, so_far.filled, index_below rows columns i j low inside) in
       let other : (k : ℕ) → k < i * columns + j → get_or h.entries k 0 ≡ get_or g.entries k 0 =
       λ k below. ap (λ (xs : List ℕ). get_or xs k 0) entries ∙ get_or-set_other g.entries (i * columns + j) k value 0 (omega arith) in
       record {
         rows_are = ap (λ (m : Grid). m.rows) is ∙ so_far.rows_are;
         columns_are = ap (λ (m : Grid). m.columns) is ∙ so_far.columns_are;
         filled = ap length entries ∙ length-set g.entries (i * columns + j) value ∙ so_far.filled;
-        before = λ a b la lb. other (a * columns + b) (omega (arith, place_below i columns a b la lb)) ∙ so_far.before a b la lb;
+        before = λ a b la lb. other (a * columns + b) (omega (arith, index_below i columns a b la lb)) ∙ so_far.before a b la lb;
         row = λ b lb. elim (cases_lt b j) [
           | inl below ↦ other (i * columns + b) (omega arith) ∙ so_far.row b below
           | inr last ↦

@@ -20,7 +20,7 @@ use Rattle.mf_matrix.proofs.Inverses.{solves_left, left_solved, zero_from_invers
 one_or_zero : (v : ℕ) → v ≡ 1 → v ≡ 0 → ⊥
 one_or_zero v one none = omega arith
 
--- the list w, ended by a one at place d
+-- the list w, ended by a one at index d
 unfoldable pub ended : ℕ → (ℕ → ℕ) → ℕ → ℕ
 ended d w j = cond (ltb j d) (w j) (identity_at j d)
 
@@ -44,7 +44,7 @@ ended-lt d w lw j = choice (ltb j d)
     choice true = lw j
     choice false = identity_at-lt j d
 
--- the list that a column shows, before, at and after the place of the column
+-- the list that a column shows, before, at and after the column's number
 shown-before : (e : ℕ → ℕ → ℕ) (c f i : ℕ) → i < c → shown_at e c f i ≡ times f (e i c)
 shown-before e c f i lt = grind (arith, nat_tests)
 

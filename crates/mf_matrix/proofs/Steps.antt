@@ -94,6 +94,3 @@ SameSolutions-trans n m a b c ab bc = record {
   kept = λ z lz s. bc.kept z lz (ab.kept z lz s);
   none_added = λ z lz s. ab.none_added z lz (bc.none_added z lz s);
 }
-
-pub SameSolutions-refl : (n m : ℕ) (a : ℕ → ℕ → ℕ) → SameSolutions n m a a
-SameSolutions-refl n m a = record { kept = λ z lz s. s; none_added = λ z lz s. s }

@@ -72,7 +72,7 @@ sum_joined n r x y =
     (sum_below-same n (λ j. times (r j) (joined n x y j)) (λ j. times (r j) (x j)) (λ j lt. ap (times (r j)) (joined-low n x y j lt)))
     (sum_below-same n (λ j. times (r (n + j)) (joined n x y (n + j))) (λ j. times (r (n + j)) (y j)) (λ j lt. ap (times (r (n + j))) (joined-high n x y j)))
 
--- a sum with a list that is zero after place c
+-- a sum with a list that is zero after index c
 pub sum_up_to : (n c : ℕ) (r x : ℕ → ℕ) → c < n → ((j : ℕ) → c < j → x j ≡ 0)
     → sum_below n (λ j. times (r j) (x j)) ≡ bit_xor (sum_below c (λ j. times (r j) (x j))) (times (r c) (x c))
 sum_up_to n c r x lt h =
@@ -83,7 +83,7 @@ sum_up_to n c r x lt h =
     (λ j l d. ap (times (r (c + j))) (h (c + j) (omega arith)) ∙ times-zero (r (c + j)))
     ∙ ap (λ (m : ℕ). times (r m) (x m)) (add-zero c))
 
--- a list made from a function, one place longer
+-- a list made from a function, one element longer
 pub list_of-more : (n : ℕ) (f : ℕ → ℕ) → list_of (n + 1) f ≡ list_of n f ++ f n ∷ []
 list_of-more n f = sym (list_of_from (n + 1) f (list_of n f ++ f n ∷ [])
     (length_push (list_of n f) (f n) ∙ ap (λ (m : ℕ). m + 1) (length-list_of n f))

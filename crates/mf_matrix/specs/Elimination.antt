@@ -1,4 +1,4 @@
--- The words of the elimination's own functions: systems of linear equations. Equation i is a list of coefficients, and
+-- What private functions of the elimination cite: systems of linear equations. Equation i is a list of coefficients, and
 -- values z solve it where the sum of coefficient j times z j, over the unknowns j, is zero.
 use Rattle.std.specs.Prelude.{ℕ, ◌≡◌, ◌≢◌, ◌+◌, ◌<◌, ◌≤◌, ◌⊎◌, ◌==◌, nat_lt, if◌then◌else◌, List}
 use Rattle.std.specs.Prelude.{[], slice_index, bit_xor, Option, Some, None}
@@ -37,7 +37,7 @@ pub record Scales (m : ℕ) (old new : ℕ → ℕ → ℕ) (i f : ℕ) : Type 0
   pub beyond : (j : ℕ) → m ≤ j → new i j ≡ old i j
   pub elsewhere : (k j : ℕ) → k ≢ i → new k j ≡ old k j
 
--- The system that says a x = y: equation i has row i of a, and behind it a one at place n + i.
+-- The system that says a x = y: equation i has row i of a, and behind it a one at index n + i.
 pub record IsSystemOf (n : ℕ) (a e : ℕ → ℕ → ℕ) : Type 0 where
   pub left : (i j : ℕ) → i < n → j < n → e i j ≡ a i j
   pub right : (i j : ℕ) → i < n → j < n → e i (n + j) ≡ identity_at i j
@@ -46,7 +46,7 @@ pub record IsSystemOf (n : ℕ) (a e : ℕ → ℕ → ℕ) : Type 0 where
 abbrev pub IsStuckAt : ℕ → (ℕ → ℕ → ℕ) → ℕ → Type 0
 IsStuckAt n e c = (i : ℕ) → c ≤ i → i < n → e i c ≡ 0
 
--- Place i of the list that column c shows: f times the column before c, f at c, and zero after it.
+-- Entry i of the list that column c shows: f times the column before c, f at c, and zero after it.
 abbrev pub shown_at : (ℕ → ℕ → ℕ) → ℕ → ℕ → ℕ → ℕ
 shown_at e c f i = if nat_lt i c then times f (e i c) else (if i == c then f else 0)
 

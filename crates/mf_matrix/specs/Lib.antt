@@ -1,4 +1,4 @@
--- What is promised of matrices: Matrix, Tables, NoInverses. Elimination has the words of private functions.
+-- What is promised of matrices: Matrix, Tables, NoInverses. Elimination is what private functions cite.
 pub mod Matrix
 pub mod Tables
 pub mod NoInverses

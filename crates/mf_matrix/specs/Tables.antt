@@ -11,7 +11,7 @@ IsTable t = (i j : ℕ) → t i j < 256
 abbrev pub IsBytes : (ℕ → ℕ) → Type 0
 IsBytes x = (j : ℕ) → x j < 256
 
--- The product of row i of a and column j of b, over n places.
+-- The product of row i of a and column j of b, over n indices.
 abbrev pub product_at : ℕ → (ℕ → ℕ → ℕ) → (ℕ → ℕ → ℕ) → ℕ → ℕ → ℕ
 product_at n a b i j = sum_below n (λ k. times (a i k) (b k j))
 

@@ -15,7 +15,7 @@ use crate::{KernelList, Matrix};
 use mf_field::{add, inv, mul};
 use std::alloc::{AllocError, Global};
 
-/// The coefficients of one equation, those of x from place 0 on, and those of y after them.
+/// The coefficients of one equation, those of x from index 0 on, and those of y after them.
 pub type Equation = [u8; 16];
 
 /// The equation with a multiple of another one added, in its first coefficients.

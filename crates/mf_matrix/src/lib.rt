@@ -131,8 +131,8 @@ impl Matrix {
         } }
         ensures kept { IsGrid self.new }
     {
-        let place = row * self.columns + column;
-        self.room[place as usize] = value;
+        let index = row * self.columns + column;
+        self.room[index as usize] = value;
     }
 }
 
@@ -191,8 +191,8 @@ mod tests {
     use std::test::Fail;
 
     /// The kernel list of a square matrix of two rows, or none.
-    fn kernel_of_two(alloc: Global, cells: [u8; 4]) -> Result<Option<KernelList>, Fail> {
-        let matrix = Matrix::new(2, 2, Vec::from_array(alloc, cells)?);
+    fn kernel_of_two(alloc: Global, entries: [u8; 4]) -> Result<Option<KernelList>, Fail> {
+        let matrix = Matrix::new(2, 2, Vec::from_array(alloc, entries)?);
         match invert(alloc, &matrix) {
             Ok(_) => Ok(None),
             Err(NoInverse::Kernel(kernel)) => Ok(Some(kernel)),
@@ -213,13 +213,13 @@ mod tests {
             Ok(inverse) => {
                 assert_eq!(rt; inverse.rows, 2);
                 assert_eq!(rt; inverse.columns, 2);
-                let cells = [
+                let entries = [
                     inverse.at(0, 0),
                     inverse.at(0, 1),
                     inverse.at(1, 0),
                     inverse.at(1, 1),
                 ];
-                assert_eq!(rt; cells, [0xf5, 0xf4, 0xf4, 0xf4]);
+                assert_eq!(rt; entries, [0xf5, 0xf4, 0xf4, 0xf4]);
             }
             Err(_) => assert!(rt; false),
         }

@@ -2,3 +2,4 @@ pub mod Numbers
 pub mod Lists
 pub mod Rising
 pub mod Results
+pub mod Parts

@@ -40,16 +40,16 @@ same-mod a b d pos e h k =
     let at_b = div-add-mod' b d in
     omega arith
 
--- copy e of chunk i (0 is the data itself) has this place, over the widest stripe
-abbrev place : ℕ → ℕ → ℕ → ℕ
-place copied i e = i + e * copied
+-- copy e of chunk i (0 is the data itself) is moved on to this number, before it is taken over the widest stripe
+abbrev moved : ℕ → ℕ → ℕ → ℕ
+moved copied i e = i + e * copied
 
-place-near : (copied k most i j e f : ℕ) → k ≤ copied → i < j + k → e ≤ most → place copied i e < place copied j f + (most + 1) * copied
-place-near copied k most i j e f narrow h few =
+moved-near : (copied k most i j e f : ℕ) → k ≤ copied → i < j + k → e ≤ most → moved copied i e < moved copied j f + (most + 1) * copied
+moved-near copied k most i j e f narrow h few =
     let more = mul-le-mul_right copied few in
     omega arith
 
-copy-le : (copied k i j e f : ℕ) → k ≤ copied → j < i + k → place copied i e ≡ place copied j f → e ≤ f
+copy-le : (copied k i j e f : ℕ) → k ≤ copied → j < i + k → moved copied i e ≡ moved copied j f → e ≤ f
 copy-le copied k i j e f narrow h same = ⊎_elim
     (λ less.
     let more : suc f * copied ≤ e * copied = mul-le-mul_right copied less in
@@ -62,22 +62,22 @@ pub record IsOne (i j e f : ℕ) : Type 0 where
   pub copy : e ≡ f
 
 -- of chunks and copies in one stripe, no two have one column
-same-place : (copied k widest most i j e f : ℕ) → 0 < widest → k ≤ widest → (0 < most → k ≤ copied) → (0 < most → (most + 1) * copied ≤ widest)
+same-moved : (copied k widest most i j e f : ℕ) → 0 < widest → k ≤ widest → (0 < most → k ≤ copied) → (0 < most → (most + 1) * copied ≤ widest)
     → i < j + k → j < i + k → e ≤ most → f ≤ most
-    → place copied i e % widest ≡ place copied j f % widest → IsOne i j e f
-same-place copied k widest zero i j e f pos wide narrow room ij ji he hf same =
+    → moved copied i e % widest ≡ moved copied j f % widest → IsOne i j e f
+same-moved copied k widest zero i j e f pos wide narrow room ij ji he hf same =
     let e0 : e ≡ 0 = omega arith in
     let f0 : f ≡ 0 = omega arith in
-    let at_i : place copied i e ≡ i = ap (place copied i) e0 ∙ omega arith in
-    let at_j : place copied j f ≡ j = ap (place copied j) f0 ∙ omega arith in
+    let at_i : moved copied i e ≡ i = ap (moved copied i) e0 ∙ omega arith in
+    let at_j : moved copied j f ≡ j = ap (moved copied j) f0 ∙ omega arith in
     let rest : i % widest ≡ j % widest = ap (λ x. x % widest) (sym at_i) ∙ same ∙ ap (λ x. x % widest) at_j in
     record { chunk = same-mod i j widest pos rest (omega arith) (omega arith); copy = e0 ∙ sym f0 }
-same-place copied k widest (suc most) i j e f pos wide narrow room ij ji he hf same =
+same-moved copied k widest (suc most) i j e f pos wide narrow room ij ji he hf same =
     let thin = narrow (omega arith) in
     let fits = room (omega arith) in
-    let one = same-mod (place copied i e) (place copied j f) widest pos same
-    (omega (arith, place-near copied k (suc most) i j e f thin ij he))
-    (omega (arith, place-near copied k (suc most) j i f e thin ji hf)) in
+    let one = same-mod (moved copied i e) (moved copied j f) widest pos same
+    (omega (arith, moved-near copied k (suc most) i j e f thin ij he))
+    (omega (arith, moved-near copied k (suc most) j i f e thin ji hf)) in
     let copy : e ≡ f = omega (arith, copy-le copied k i j e f thin ji one, copy-le copied k j i f e thin ij (sym one)) in
     let moved : e * copied ≡ f * copied = ap (λ n. n * copied) copy in
     record { chunk = omega arith; copy = copy }
@@ -111,13 +111,13 @@ room_for b book g below =
     }
 
 -- copy e of chunk i stands in this column
-column-data : (b : BookFacts) (i : ℕ) → column_of b (name.Data i) ≡ place (max_copied_width b.shape.stages) i 0 % max_width b.shape.stages
+column-data : (b : BookFacts) (i : ℕ) → column_of b (name.Data i) ≡ moved (max_copied_width b.shape.stages) i 0 % max_width b.shape.stages
 column-data b i = ap (λ n. n % max_width b.shape.stages) (omega arith)
 
-chunk-place : (b : BookFacts) (g : ℕ) → Room b g → (i j e f : ℕ) → i / width_at b.shape.stages g ≡ j / width_at b.shape.stages g → e ≤ copies_at b.shape.stages g → f ≤ copies_at b.shape.stages g
-    → place (max_copied_width b.shape.stages) i e % max_width b.shape.stages ≡ place (max_copied_width b.shape.stages) j f % max_width b.shape.stages → IsOne i j e f
-chunk-place b g room i j e f stripe he hf same =
-    same-place (max_copied_width b.shape.stages) (width_at b.shape.stages g) (max_width b.shape.stages) (copies_at b.shape.stages g) i j e f
+chunk-moved : (b : BookFacts) (g : ℕ) → Room b g → (i j e f : ℕ) → i / width_at b.shape.stages g ≡ j / width_at b.shape.stages g → e ≤ copies_at b.shape.stages g → f ≤ copies_at b.shape.stages g
+    → moved (max_copied_width b.shape.stages) i e % max_width b.shape.stages ≡ moved (max_copied_width b.shape.stages) j f % max_width b.shape.stages → IsOne i j e f
+chunk-moved b g room i j e f stripe he hf same =
+    same-moved (max_copied_width b.shape.stages) (width_at b.shape.stages g) (max_width b.shape.stages) (copies_at b.shape.stages g) i j e f
     room.widest room.wide room.narrow room.copies
     (near i j (width_at b.shape.stages g) room.width stripe) (near j i (width_at b.shape.stages g) room.width (sym stripe)) he hf same
 
@@ -125,22 +125,22 @@ chunk-place b g room i j e f stripe he hf same =
 one-column : (b : BookFacts) (g : ℕ) → Room b g → (x y : Name) → Holds b g x → Holds b g y → stripe_of b g x ≡ stripe_of b g y → column_of b x ≡ column_of b y → x ≡ y
 one-column b g room (name.Data i) (name.Data j) hx hy stripe column =
     let few : 0 ≤ copies_at b.shape.stages g = omega arith in
-    let one = chunk-place b g room i j 0 0 stripe few few (sym (column-data b i) ∙ column ∙ column-data b j) in
+    let one = chunk-moved b g room i j 0 0 stripe few few (sym (column-data b i) ∙ column ∙ column-data b j) in
     ap (λ n. name.Data n) one.chunk
 one-column b g room (name.Data i) (name.Copy d j) hx hy stripe column =
     let none : 0 ≤ copies_at b.shape.stages g = omega arith in
     let few : d + 1 ≤ copies_at b.shape.stages g = omega (arith, hy.0) in
-    let one = chunk-place b g room i j 0 (d + 1) stripe none few (sym (column-data b i) ∙ column) in
+    let one = chunk-moved b g room i j 0 (d + 1) stripe none few (sym (column-data b i) ∙ column) in
     absurd (omega (arith, one.copy))
 one-column b g room (name.Copy c i) (name.Data j) hx hy stripe column =
     let none : 0 ≤ copies_at b.shape.stages g = omega arith in
     let few : c + 1 ≤ copies_at b.shape.stages g = omega (arith, hx.0) in
-    let one = chunk-place b g room i j (c + 1) 0 stripe few none (column ∙ column-data b j) in
+    let one = chunk-moved b g room i j (c + 1) 0 stripe few none (column ∙ column-data b j) in
     absurd (omega (arith, one.copy))
 one-column b g room (name.Copy c i) (name.Copy d j) hx hy stripe column =
     let few_c : c + 1 ≤ copies_at b.shape.stages g = omega (arith, hx.0) in
     let few_d : d + 1 ≤ copies_at b.shape.stages g = omega (arith, hy.0) in
-    let one = chunk-place b g room i j (c + 1) (d + 1) stripe few_c few_d column in
+    let one = chunk-moved b g room i j (c + 1) (d + 1) stripe few_c few_d column in
     let copy : c ≡ d = omega (arith, one.copy) in
     let chunk : i ≡ j = one.chunk in
     cc

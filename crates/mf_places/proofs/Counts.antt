@@ -129,6 +129,6 @@ width-some chain zero h = absurd (omega (arith, max_parities-zero chain))
 width-some chain (suc width) h = omega arith
 
 -- a number among the parities of a width has a stripe and a point
-pub parity-place : (stripes r at : ℕ) → at < stripes * r → (at / r < stripes) × (at % r < r)
-parity-place stripes zero at below = absurd (omega arith)
-parity-place stripes (suc r) at below = (div_below at (suc r) stripes (omega arith) below, mod_below at (suc r) (omega arith))
+pub parity-parts : (stripes r at : ℕ) → at < stripes * r → (at / r < stripes) × (at % r < r)
+parity-parts stripes zero at below = absurd (omega arith)
+parity-parts stripes (suc r) at below = (div_below at (suc r) stripes (omega arith) below, mod_below at (suc r) (omega arith))

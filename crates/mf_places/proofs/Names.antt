@@ -15,7 +15,8 @@ use Rattle.mf_places.specs.Facts.{BookFacts, chunks_of}
 use Rattle.mf_places.specs.Names.{stripes_of, parities_of, data_names, copies_named, copy_names, stripe_parities, width_parities, parity_names, all_names, count_of, name_at, HasName}
 use Rattle.mf_places.specs.Numbers.{parities_in, parities_below, first_in, number_of}
 use Rattle.mf_places.specs.Rows.{IsNumber}
-use Rattle.mf_places.proofs.Ranges.{flat_map-more, take-range}
+use Rattle.mf_lemmas.proofs.Parts.{take-range}
+use Rattle.mf_places.proofs.Ranges.{flat_map-more}
 use Rattle.mf_places.proofs.Counts.{max_parities-some, parities_below-grows, parities_below-find}
 
 -- ---- lists that are made over a range
@@ -33,7 +34,7 @@ at-flat_map : {X : Type 0} (f : ℕ → List X) (n i j before : ℕ) (d : X) →
     → get_or (flat_map f (range_with_len 0 n)) (before + j) d ≡ get_or (f i) j d
 at-flat_map f n i j before d lt within e =
     let g : get_or (range_with_len 0 n) i 0 ≡ i = get_or-range_with_len 0 n i 0 lt ∙ omega arith in
-    let t = take-range n i (omega arith) in
+    let t = take-range i 0 n (omega arith) in
     let h = get_or-flat_map f (range_with_len 0 n) i j 0 d (omega (arith, length-range_with_len 0 n)) (rw g within) in
     rw (g, t, e) at h
 
@@ -119,10 +120,10 @@ at-width b width j p hj hp =
     (omega (arith, length-stripe b width j)) (length-stripes_below b width j)
     ∙ at-stripe b width j p hp
 
--- the place of a parity among those of its width
-place-width : (b : BookFacts) (width j p : ℕ) → j < stripes_of b width → p < parities_of b width
+-- a parity is one of those of its width
+within-width : (b : BookFacts) (width j p : ℕ) → j < stripes_of b width → p < parities_of b width
     → j * parities_of b width + p < parities_in (chunks_of b) b.shape.stages width
-place-width b width j p hj hp =
+within-width b width j p hj hp =
     let h = mul-add-lt j (parities_of b width) p (stripes_of b width) hj hp in
     omega (arith, h, mul_comm (parities_of b width) (stripes_of b width))
 
@@ -132,7 +133,7 @@ unfolding parity_names
 at-parity b width j p hj hp =
     let wide = max_parities-some width b.shape.stages (omega arith) in
     at-flat_map (width_parities b) (max_width b.shape.stages + 1) width (j * parities_of b width + p) (parities_below (chunks_of b) b.shape.stages width) (name.Data 0) (omega arith)
-    (rw length-width (place-width b width j p hj hp)) (length-widths_below b width)
+    (rw length-width (within-width b width j p hj hp)) (length-widths_below b width)
     ∙ at-width b width j p hj hp
 
 -- a name that a file has stands at its number
@@ -145,7 +146,7 @@ IsAt-number b (name.Data i) h = record {
       ∙ at-data b i h;
 }
 IsAt-number b (name.Copy c i) h =
-    let place : c * chunks_of b + i < copies_at b.shape.stages 0 * chunks_of b = omega (arith, mul-add-lt c (chunks_of b) i (copies_at b.shape.stages 0) h.0 h.1, mul_comm (chunks_of b) (copies_at b.shape.stages 0)) in
+    let within : c * chunks_of b + i < copies_at b.shape.stages 0 * chunks_of b = omega (arith, mul-add-lt c (chunks_of b) i (copies_at b.shape.stages 0) h.0 h.1, mul_comm (chunks_of b) (copies_at b.shape.stages 0)) in
     let e : number_of b (name.Copy c i) ≡ length (data_names b) + (c * chunks_of b + i) = omega (arith, length-data b) in
     record {
       below = omega (arith, count_of-is b);
@@ -156,7 +157,7 @@ IsAt-number b (name.Copy c i) h =
     }
 IsAt-number b (name.Parity width j p) h =
     let wide = max_parities-some width b.shape.stages (omega (arith, h.1)) in
-    let place = place-width b width j p h.0 h.1 in
+    let within = within-width b width j p h.0 h.1 in
     let more = parities_below-grows (chunks_of b) b.shape.stages (suc width) (max_width b.shape.stages + 1) (omega arith) in
     let e : number_of b (name.Parity width j p) ≡ length (data_names b ++ copy_names b) + (parities_below (chunks_of b) b.shape.stages width + (j * parities_of b width + p)) = omega (arith, length-front b) in
     record {

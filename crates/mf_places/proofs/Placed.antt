@@ -1,4 +1,4 @@
--- Where names are placed, and how they are read behind a book's fields.
+-- Columns and stripes of names are within their bounds.
 use Rattle.std.proofs.Common.{ℕ, ◌+◌, ◌*◌, ◌/◌, ◌<◌, ◌≤◌, length, subst, arith, IsTrue}
 use Rattle.std.proofs.Math.Nat.{mod-lt}
 use Rattle.std.proofs.lemmas.Nat.{div_below}

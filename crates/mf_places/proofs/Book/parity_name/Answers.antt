@@ -5,7 +5,7 @@ use Rattle.mf_shape.proofs.Widths.{max_width-le-limit}
 use Rattle.mf_places.specs.Facts.{chunks_of}
 use Rattle.mf_places.specs.Names.{stripes_of, parities_of}
 use Rattle.mf_places.specs.Numbers.{first_in}
-use Rattle.mf_places.proofs.Counts.{first_in-more, parity-place}
+use Rattle.mf_places.proofs.Counts.{first_in-more, parity-parts}
 use Rattle.mf_places.proofs.Names.{count_of-is}
 use Rattle.mf_places.proofs.Book.parity_name.Goals as goal
 
@@ -29,4 +29,4 @@ returns-clause-had c =
     let width = c.loop-width.width in
     let more = first_in-more (chunks_of b) b.shape.stages width in
     let below : c.args.n - c.first-2.result < stripes_of b width * parities_of b width = omega (arith, c.first.ensures.value, c.first-2.ensures.value, c.loop-width-test.false) in
-    rw c.parities-parities.ensures.value (parity-place (stripes_of b width) (parities_of b width) (c.args.n - c.first-2.result) below)
+    rw c.parities-parities.ensures.value (parity-parts (stripes_of b width) (parities_of b width) (c.args.n - c.first-2.result) below)

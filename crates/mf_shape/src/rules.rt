@@ -7,8 +7,7 @@ ghost use Rattle.mf_shape.specs.Faults.{IsFirst};
 ghost use Rattle.mf_shape.specs.Rules.{KeepsLimit, KeepsStep, KeepsLimitAt, KeepsStepAt};
 ghost use Rattle.mf_shape.specs.Rules.{FailsFirst, EachStage};
 
-use crate::{MAX_COPIES, MAX_PARITIES, MAX_SERVERS, MAX_STAGES, MAX_WIDTH};
-use crate::{ShapeFault, Stage};
+use crate::{MAX_COPIES, MAX_PARITIES, MAX_SERVERS, MAX_STAGES, MAX_WIDTH, ShapeFault, Stage};
 
 /// A limit of one stage.
 #[derive(Clone, Copy)]

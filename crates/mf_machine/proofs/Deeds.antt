@@ -30,7 +30,7 @@ use Rattle.mf_machine.specs.Worlds.{World, Row, Turn, stays, comes_out, goes_bac
 use Rattle.mf_machine.proofs.Lists.{at_read, at_set, at_snoc}
 use Rattle.mf_machine.proofs.Seats.{stays as still}
 use Rattle.mf_machine.proofs.Words.{set_in}
-use Rattle.mf_machine.proofs.Entering.{Tale, silence, word, news, known, tell, answer_of, Rises}
+use Rattle.mf_machine.proofs.Entering.{Tale, silence, reply, news, known, tell, answer_of, Rises}
 
 -- an exchange, a split and a join have no row
 abbrev pub row_of : File → View → Deed → Row
@@ -93,7 +93,7 @@ active f w id d may = may.0
 -- what a move tells its actor
 abbrev pub tale_of : Option Answer → Tale
 tale_of None = silence
-tale_of (Some a) = word a
+tale_of (Some a) = reply a
 
 abbrev pub tale : File → World → ℕ → Deed → Tale
 tale f w id (move.publish next) = news next
@@ -111,7 +111,7 @@ tale_is f w id d = answer_is (said f w id d)
 abbrev Left : Tale → (v u : View) → Type 0
 Left t v u = (u.step ≡ v.step) × (known u ≡ tell t (known v)) × Rises t (known v)
 
-pin_left : (b : Bool) (slot : Slot) (g : ℕ) (v : View) → Left (word (pin_said b g)) v (row.pin_view b slot g v)
+pin_left : (b : Bool) (slot : Slot) (g : ℕ) (v : View) → Left (reply (pin_said b g)) v (row.pin_view b slot g v)
 pin_left true Hold g v = (refl, refl, tt)
 pin_left true Work g v = (refl, refl, tt)
 pin_left false slot g v = (refl, refl, tt)
@@ -120,12 +120,12 @@ unpin_left : (slot : Slot) (v : View) → Left silence v (row.unpinned slot v)
 unpin_left Hold v = (refl, refl, tt)
 unpin_left Work v = (refl, refl, tt)
 
-close_left : (a : Closed) (g : ℕ) (v : View) → Left (word (close_said a g (live g v))) v (row.close_view a g v)
+close_left : (a : Closed) (g : ℕ) (v : View) → Left (reply (close_said a g (live g v))) v (row.close_view a g v)
 close_left closing.Done g v = (refl, refl, tt)
 close_left (closing.Pins n) g v = (refl, refl, tt)
 close_left closing.Already g v = (refl, refl, tt)
 
-begin_left : (b : Bool) (v : View) → Left (word (begin_said b)) v (row.begin_view b v)
+begin_left : (b : Bool) (v : View) → Left (reply (begin_said b)) v (row.begin_view b v)
 begin_left true v = (refl, refl, tt)
 begin_left false v = (refl, refl, tt)
 
@@ -145,7 +145,7 @@ drop_left : (a : Drop) (n x : ℕ) (v : View) → Left (tale_of (drop_said a n))
 drop_left row.drops n x v = (refl, refl, tt)
 drop_left a n x v = (refl, refl, tt)
 
-again_left : (b : Bool) (n : ℕ) (v : View) → Left (word (drop_again_said b n)) v (row.drop_again_view b n v)
+again_left : (b : Bool) (n : ℕ) (v : View) → Left (reply (drop_again_said b n)) v (row.drop_again_view b n v)
 again_left true n v = (refl, refl, tt)
 again_left false n v = (refl, refl, tt)
 

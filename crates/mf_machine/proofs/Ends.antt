@@ -1,5 +1,5 @@
 -- What follows from the law: pinned names stay, the last actor brings all back, and causes lead back.
-use Rattle.std.proofs.Common.{◌≡◌, ◌≢◌, ℕ, zero, suc, ◌+◌, ◌<◌, [], ◌∷◌, sym, refl, ap, subst, ⊎_elim, inl, inr, arith}
+use Rattle.std.proofs.Common.{◌≡◌, ◌≢◌, ℕ, zero, suc, ◌+◌, ◌<◌, [], ◌∷◌, sym, refl, ap, subst, true, ◌⊎◌, ⊎_elim, inl, inr, arith}
 use Rattle.std.proofs.lemmas.Bool.{leb-true, le-leb}
 use mathlib.Core.Logic.{dite}
 use mathlib.Core.Option.{some, some-injective, some-ne-none}
@@ -8,10 +8,11 @@ use lib.ListN.{get_elem?}
 use Rattle.mf_machine.specs.declared.view.Met.{Met}
 use Rattle.mf_machine.specs.declared.view.View.{View}
 use Rattle.mf_machine.specs.Actors.{live}
+use Rattle.mf_machine.specs.Answers as answer
 use Rattle.mf_machine.specs.Counts.{times, total, all_begun, all_opened}
 use Rattle.mf_machine.specs.File.{File, Opening, State, Holds}
-use Rattle.mf_machine.specs.Kept.{IsActor, IsMetOf, Kept}
-use Rattle.mf_machine.specs.Laws.{Law, RestIsKept, Stays, PinnedStays, IsLast, resting, alone, BringsBack}
+use Rattle.mf_machine.specs.Kept.{IsActor, IsMetOf, Stands, Kept}
+use Rattle.mf_machine.specs.Laws.{Someone, Law, RestIsKept, Stays, PinnedStays, IsLast, resting, alone, BringsBack}
 use Rattle.mf_machine.specs.Laws.{LastBringsBack, Another, Someone, LeadsBack, CausesLeadBack}
 use Rattle.mf_machine.specs.Rest.{Rest}
 use Rattle.mf_machine.specs.Ruled.{SitsIn, Ruled}
@@ -24,6 +25,7 @@ use Rattle.mf_machine.proofs.Lists.{bit_is, bit_not}
 use Rattle.mf_machine.proofs.Totals.{total_at, total_two, total_some, total_other}
 use Rattle.mf_machine.proofs.Laws.{reached}
 use Rattle.mf_machine.proofs.Rules as rules
+use Rattle.mf_machine.proofs.Rules.{either}
 use Rattle.mf_machine.proofs.Seats.{Equal, words_equal, sits_equal, zero_has}
 
 -- the law
@@ -143,7 +145,7 @@ module _ (f : File) (k : Opening) (s : State) (r : Ruled f k s) (j : ℕ) (v : V
           λ e. dite (dec_le 4 (s.name n)) (λ q. q)
               (λ q. let z = a.kept n l ne (omega arith) (omega arith) in absurd (omega arith)),
         );
-        line = λ n i l e. ⊎_elim (λ q. inl q) (λ h. inr (omega arith)) (a.line n i l e);
+        line = λ n i l e. ⊎_elim (λ q. inl q) (λ h. inr (omega arith)) (a.line n l i e);
         here = λ n l. let ne = none_taken n l in dite (ℕ_discrete (s.name n) 0) (λ e. inl e) (λ p. inr (dite (ℕ_discrete (s.name n) 1) (λ e. inl e)
             (λ q. inr (dite (ℕ_discrete (s.name n) 3) (λ e. inl e) (λ y. inr (omega arith))))));
       }
@@ -169,13 +171,16 @@ someone s deed h = total_some deed s.views h
 
 pub leads_back : (f : File) (k : Opening) (s : State) → Kept f k s → (j : ℕ) (v : View) → IsActor s j v → LeadsBack f k s j v
 leads_back f k s r j v at = let of = λ (m : Met) (is : IsMetOf v m). r.caused.answers j v at m is in record {
-  refused = λ h. another s j v begun_of v.own.begun (all_begun v.gone) at refl ((of v.own (inl refl)).refused h);
-  pinned = λ g h. another s j v (opened_of g) (times g v.own.opened) (all_opened g v.gone) at refl ((of v.own (inl refl)).pinned g h);
-  already = λ g m is h. ⊎_elim (λ e. inl e) (λ q. inr (someone s (closings g) q)) ((of m is).closed g h);
-  lost = λ n l m is h. ⊎_elim (λ e. inl e) (λ q. inr (someone s (loses_by n l) q)) ((of m is).lost n l h);
-  absent = λ m is h. ⊎_elim (λ e. sym e) (λ q. let t = (r.accounted.published_once 0 q).1 in absurd (omega arith)) ((of m is).number 0 h);
-  removed = λ m is h. ⊎_elim (λ e. inl (sym e)) (λ q. inr (someone s (publishings (f.stages + 1)) q)) ((of m is).number (f.stages + 1) h);
+  refused = λ h. another s j v begun_of v.own.begun (all_begun v.gone) at refl (of v.own (inl refl) answer.refused h);
+  pinned = λ g p o h more. another s j v (opened_of g) (times g v.own.opened) (all_opened g v.gone) at refl (of v.own (inl refl) (answer.pinned g p o) h more);
+  already = λ g m is h. ⊎_elim (λ a. shut g (of m is (answer.already g) a)) (λ a. shut g (of m is (answer.missed g) a)) (either (times g m.already) (times g m.missed) h);
+  lost = λ n l m is h. ⊎_elim (λ e. inl e) (λ q. inr (someone s (loses_by n l) q)) (of m is (answer.lost n l) h);
+  absent = λ m is h. ⊎_elim (λ e. sym e) (λ q. let t = (r.accounted.published_once 0 q).1 in absurd (omega arith)) (of m is (answer.number 0) h);
+  removed = λ m is h. ⊎_elim (λ e. inl (sym e)) (λ q. inr (someone s (publishings (f.stages + 1)) q)) (of m is (answer.number (f.stages + 1)) h);
 }
+  where
+    shut : (g : ℕ) → (k.closed g ≡ true) ⊎ Stands (closings g) s → (k.closed g ≡ true) ⊎ Someone s (closings g)
+    shut g t = ⊎_elim (λ e. inl e) (λ q. inr (someone s (closings g) q)) t
 
 pub causes_lead_back : CausesLeadBack
 causes_lead_back f k w r = leads_back f k (read f w) (law f k w r).0

@@ -205,7 +205,7 @@ shows_it a s = tt
 -- what a move tells its actor: nothing, an answer, or the number that it published
 pub data Tale : Type 0 where
   silence : Tale
-  word : Answer → Tale
+  reply : Answer → Tale
   news : ℕ → Tale
 
 -- what the answers of a view tell of
@@ -220,17 +220,21 @@ known v = record { own = v.own; seen = v.seen; made = v.made; gone = v.gone }
 
 abbrev pub tell : Tale → Known → Known
 tell silence q = q
-tell (word a) q = record q { own = enter a q.own; seen = show a q.seen; made = make a q.made }
+tell (reply a) q = record q { own = enter a q.own; seen = show a q.seen; made = make a q.made }
 tell (news n) q = record q { own = enter (number n) q.own; seen = show (number n) q.seen; made = record q.made { numbers = n ∷ q.made.numbers } }
+
+pub gone_left : (t : Tale) (q : Known) → (tell t q).gone ≡ q.gone
+gone_left silence q = refl
+gone_left t q = refl
 
 abbrev pub answer_of : Tale → Option Answer
 answer_of silence = None
-answer_of (word a) = Some a
+answer_of (reply a) = Some a
 answer_of (news n) = Some (number n)
 
 abbrev pub Rises : Tale → Known → Type 0
 Rises silence q = Unit {0}
-Rises (word a) q = Higher a q.seen
+Rises (reply a) q = Higher a q.seen
 Rises (news n) q = q.seen.number ≤ n
 
 -- what was seen and made stays
@@ -246,7 +250,7 @@ news_on a n m = omega arith
 
 pub goes_on : (t : Tale) (q : Known) → Rises t q → Goes q (tell t q)
 goes_on silence q h = goes_same q
-goes_on (word a) q h = record {
+goes_on (reply a) q h = record {
   number = number_on a q.seen h;
   shut = shut_on a q.seen;
   born = born_on a q.seen;
@@ -285,7 +289,7 @@ no_news a n m c is = (refl, refl)
 -- a move keeps it so
 pub tells_on : (t : Tale) (q : Known) → Rises t q → Tells q → Tells (tell t q)
 tells_on silence q h r = r
-tells_on (word a) q h r = let o = goes_on (word a) q h in record {
+tells_on (reply a) q h r = let o = goes_on (reply a) q h in record {
   own = has_more a (show a q.seen) q.own (has_on q.seen (show a q.seen) q.made (make a q.made) q.own o r.own) (shows_it a q.seen);
   gone = λ i m at. has_on q.seen (show a q.seen) q.made (make a q.made) m o (r.gone i m at);
   published = λ n. let e = ap (times n) (numbers_same a q.made) in let b = numbers_more a q.own n in let c = r.published n in omega arith;
@@ -304,5 +308,5 @@ one_more a m b = (λ e. subst (λ z. often z (enter a m) ≡ often z m + 1) (sam
 
 pub enters_by : (t : Tale) (q : Known) → Enters (answer_of t) q.own (tell t q).own
 enters_by silence q b = (λ e. absurd (none-some b e), λ ne. refl)
-enters_by (word a) q b = one_more a q.own b
+enters_by (reply a) q b = one_more a q.own b
 enters_by (news n) q b = one_more (number n) q.own b

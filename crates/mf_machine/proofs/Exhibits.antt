@@ -2,6 +2,7 @@
 use Rattle.std.proofs.Common.{◌≡◌, ℕ, zero, suc, ◌+◌, ◌*◌, ◌<◌, eqb, true, false, cond, List, [], ◌∷◌, ◌++◌, get_or, take, drop, subst, refl, inl, inr, ⊎_elim, arith}
 use Rattle.mf_machine.specs.declared.answer.Slot.TheVariants.{Hold, Work}
 use Rattle.mf_machine.specs.declared.view.View.{View}
+use Rattle.mf_machine.specs.Answers.{refused}
 use Rattle.mf_machine.specs.Actors.{NextHolds}
 use Rattle.mf_machine.specs.Counts.{truth}
 use Rattle.mf_machine.specs.File.{File, Opening, State, Holds, HasCell, Unharmed, name_word}
@@ -117,6 +118,7 @@ not_next n = let e = n.1.2 in let same : n.0 ≡ 1 = omega arith in false_true (
 exhibits : Exhibits file first moves
 exhibits = record {
   slots = occurs _ 32 (by 0 (move.take 0)) refl (0, 0, refl, refl);
+  pin_true = occurs _ 28 (by 0 (move.pin Hold 0)) refl (0, refl, refl);
   pin_false = occurs _ 68 (by 0 (move.pin Work 1)) refl (1, refl, refl);
   unpinned = (occurs _ 57 (by 0 (move.unpin Hold 0)) refl (0, refl), occurs _ 58 (by 0 (move.unpin Work 0)) refl (0, refl));
   close_done = occurs _ 60 (by 0 (move.close 0)) refl (0, refl, refl);
@@ -134,6 +136,7 @@ exhibits = record {
   take_again = occurs _ 33 (by 1 (move.take 0)) refl (0, refl, refl);
   gives = occurs _ 35 (by 0 (move.give 0)) refl (0, refl);
   in_birth = occurs _ 10 (by 1 move.look) refl (0, 0, refl, λ e. omega arith, refl);
+  births = occurs _ 9 (by 0 (move.birth 0)) refl (0, refl);
   by_work = occurs _ 45 (by 0 (move.retake 1)) refl (1, refl, not_next);
   by_next = occurs _ 24 (by 0 (move.retake 0)) refl (0, refl, refl);
   lose_done = occurs _ 19 (by 1 (move.lose 0 7)) refl (0, 7, refl, refl);
@@ -145,7 +148,7 @@ exhibits = record {
   again_true = occurs _ 75 (by 0 (move.drop_again 3)) refl (3, refl, refl);
   again_false = occurs _ 76 (by 1 (move.drop_again 3)) refl (3, refl, refl);
   returns = (occurs _ 12 (by 0 (move.born 0)) refl (0, refl), occurs _ 26 (by 0 (move.restored 0)) refl (0, refl), occurs _ 79 (by 0 (move.dropped 1)) refl (1, refl), occurs _ 22 (by 1 (move.lost 0 7)) refl (0, 7, refl));
-  others = (occurs _ 0 (by 0 move.split) refl refl, occurs _ 82 (by 0 (move.join 1)) refl (1, refl));
+  others = (occurs _ 11 (by 0 (move.exchange (keeps (0 ∷ [])))) refl (keeps (0 ∷ []), refl), occurs _ 0 (by 0 move.split) refl refl, occurs _ 82 (by 0 (move.join 1)) refl (1, refl));
   last = (
     final,
     (refl, refl, refl, refl, refl, refl),
@@ -243,7 +246,7 @@ caused_breaks = (
   start,
   state 0 0 (λ _. 0) (λ _. 0) (was_refused ∷ []),
   rest,
-  λ r. let t = (r.answers 0 was_refused refl was_refused.own (inl refl)).refused (omega arith) in omega arith,
+  λ r. let t = r.answers 0 was_refused refl was_refused.own (inl refl) refused (omega arith) in omega arith,
 )
 
 pub each_breaks : EachBreaks

@@ -1,5 +1,7 @@
 -- What stays true of an actor over a step that changes other facts: the number may rise, sums may grow, and a name may change where this actor's knowledge allows it.
-use Rattle.std.proofs.Common.{◌≡◌, ◌⊎◌, ℕ, ◌+◌, ◌<◌, ◌≤◌, sym, refl, ◌∙◌, ⊎_elim, inl, inr, arith}
+use Rattle.std.proofs.Common.{◌≡◌, ◌≢◌, ◌⊎◌, ℕ, ◌+◌, ◌<◌, ◌≤◌, ◌∷◌, sym, refl, ap, ◌∙◌, subst, ⊎_elim, inl, inr, arith}
+use mathlib.Core.Option.{some}
+use lib.ListN.{get_elem?}
 use Rattle.mf_machine.specs.declared.view.Build.{Build}
 use Rattle.mf_machine.specs.declared.view.Inside.{Inside}
 use Rattle.mf_machine.specs.declared.view.Met.{Met}
@@ -8,8 +10,11 @@ use Rattle.mf_machine.specs.declared.view.View.{View}
 use Rattle.mf_machine.specs.Actors.{busy, PinHolds, AllShown}
 use Rattle.mf_machine.specs.Counts.{times}
 use Rattle.mf_machine.specs.File.{File, Opening, Holds}
-use Rattle.mf_machine.specs.Ruled.{SeenIs, RightIs, BuildIs, InsideIs, MetIs, Sits}
+use Rattle.mf_machine.specs.Answers.{Answer, number, refused, missed, closed, already, pinned, unborn, here, lost, put, restored, dropped, not_lost, not_dropped}
+use Rattle.mf_machine.specs.Ruled.{Ground, SeenIs, RightIs, BuildIs, InsideIs, MetIs, Sits}
 use Rattle.mf_machine.specs.Sums.{Tally}
+use Rattle.mf_machine.proofs.Entering.{enter, show, often_from, Tale, silence, reply, news, Known, known, tell}
+use Rattle.mf_machine.proofs.Lists.{times_cons}
 
 -- no sum falls
 pub record Grows (a a' : Tally) : Type 0 where
@@ -104,8 +109,7 @@ module _ (f : File) (k : Opening) (p p' : ℕ) (name name' : ℕ → ℕ) (a a' 
   }
 
   pub shown_shut : (m : Met) (n : ℕ) → MetIs k a m → AllShown f m n → (g : ℕ) → g < f.stages → Holds f g n → 0 < a.shuts g
-  shown_shut m n r all g l h = let s = all g l h in let c = r.closed g in
-      let d = r.already g in ⊎_elim (λ z. c z) (λ z. d z) (either_way (times g m.closed) (times g m.already) s)
+  shown_shut m n r all g l h = let s = all g l h in ⊎_elim (λ z. r (closed g) z) (λ z. r (already g) z) (either_way (times g m.closed) (times g m.already) s)
     where
       either_way : (x y : ℕ) → 0 < x + y → (0 < x) ⊎ (0 < y)
       either_way ℕ.zero y h = inr (omega arith)
@@ -128,20 +132,99 @@ module _ (f : File) (k : Opening) (p p' : ℕ) (name name' : ℕ → ℕ) (a a' 
     );
   }
 
+  -- a ground stays, where sums grow and the Met's own begins and pins grow with them
+  pub ground_on : (m m' : Met) (x : Answer) → Grows a a' → m'.begun + a.begun ≤ m.begun + a'.begun
+      → ((g : ℕ) → times g m'.opened + a.opened g ≤ times g m.opened + a'.opened g) → Ground k a m x → Ground k a' m' x
+  ground_on m m' (number n) g b o h = let q = g.heard n in omega arith
+  ground_on m m' refused g b o h = omega arith
+  ground_on m m' (missed n) g b o h = let q = g.shuts n in omega arith
+  ground_on m m' (closed n) g b o h = let q = g.shuts n in omega arith
+  ground_on m m' (already n) g b o h = let q = g.shuts n in omega arith
+  ground_on m m' (pinned n c d) g b o h = λ l. let q = o n in let t = h l in omega arith
+  ground_on m m' (unborn n) g b o h = h
+  ground_on m m' (here n) g b o h = let q = g.raised n in omega arith
+  ground_on m m' (lost n l) g b o h = let q = g.lost_by n l in omega arith
+  ground_on m m' (not_lost n) g b o h = let q = g.sunk n in omega arith
+  ground_on m m' (not_dropped n) g b o h = let q = g.hidden n in omega arith
+  ground_on m m' x g b o h = tt
+
   pub met_on : (m : Met) → MetIs k a m → Grows a a' → MetIs k a' m
-  met_on m r g = record {
-    numbers = λ n h. let t = r.numbers n h in let q = g.heard n in omega arith;
-    refused = λ h. let t = r.refused h in let q = g.begun in omega arith;
-    missed = λ n h. let t = r.missed n h in let q = g.shuts n in omega arith;
-    closed = λ n h. let t = r.closed n h in let q = g.shuts n in omega arith;
-    already = λ n h. let t = r.already n h in let q = g.shuts n in omega arith;
-    pinned = λ n h. let t = r.pinned n h in let q = g.opened n in omega arith;
-    unborn = r.unborn;
-    here = λ n h. let t = r.here n h in let q = g.raised n in omega arith;
-    lost = λ n l h. let t = r.lost n l h in let q = g.lost_by n l in omega arith;
-    not_lost = λ n h. let t = r.not_lost n h in let q = g.sunk n in omega arith;
-    not_dropped = λ n h. let t = r.not_dropped n h in let q = g.hidden n in omega arith;
+  met_on m r g x h = ground_on m m x g (let b = g.begun in omega arith) (λ n. let b = g.opened n in omega arith) (r x h)
+
+  -- a Met with one more answer
+  pub met_enters : (x : Answer) (m : Met) → MetIs k a m → Grows a a' → (enter x m).begun + a.begun ≤ m.begun + a'.begun
+      → ((g : ℕ) → times g (enter x m).opened + a.opened g ≤ times g m.opened + a'.opened g) → Ground k a' (enter x m) x → MetIs k a' (enter x m)
+  met_enters x m r g b o new y h = often_from x y m (Ground k a' (enter x m) y) (λ e. subst (Ground k a' (enter x m)) e new)
+      (λ q. ground_on m (enter x m) y g b o (r y q)) h
+
+  -- what an answer shows is so
+  abbrev pub Shown : Answer → Type 0
+  Shown (number n) = (n ≤ p') × (0 < a'.heard n)
+  Shown (missed g) = 0 < a'.shuts g
+  Shown (closed g) = 0 < a'.shuts g
+  Shown (already g) = 0 < a'.shuts g
+  Shown (here n) = name' n ≢ 0
+  Shown (lost n l) = name' n ≢ 0
+  Shown (put n) = name' n ≢ 0
+  Shown (restored n) = name' n ≢ 0
+  Shown (dropped n) = name' n ≡ 3
+  Shown x = Unit {0}
+
+  more_shut : (g : ℕ) (s : Seen) → SeenIs p' name' a' s → 0 < a'.shuts g → SeenIs p' name' a' (record s { shut = g ∷ s.shut })
+  more_shut g s r h = record {
+    low = r.low;
+    heard = r.heard;
+    born = r.born;
+    dropped = r.dropped;
+    shut = λ m l. times_cons m g s.shut (0 < a'.shuts m) (λ e. subst (λ z. 0 < a'.shuts z) (sym e) h) (r.shut m) l;
   }
+
+  more_born : (n : ℕ) (s : Seen) → SeenIs p' name' a' s → name' n ≢ 0 → SeenIs p' name' a' (record s { born = n ∷ s.born })
+  more_born n s r h = record {
+    low = r.low;
+    heard = r.heard;
+    shut = r.shut;
+    dropped = r.dropped;
+    born = λ m l. times_cons m n s.born (name' m ≢ 0) (λ e z. h (sym (ap name' e) ∙ z)) (r.born m) l;
+  }
+
+  -- a Seen with what one more answer shows
+  pub seen_shows : (x : Answer) (s : Seen) → SeenIs p' name' a' s → Shown x → SeenIs p' name' a' (show x s)
+  seen_shows (number n) s r h = record { low = h.0; heard = λ _. h.1; shut = r.shut; born = r.born; dropped = r.dropped }
+  seen_shows (missed g) s r h = more_shut g s r h
+  seen_shows (closed g) s r h = more_shut g s r h
+  seen_shows (already g) s r h = more_shut g s r h
+  seen_shows (here n) s r h = more_born n s r h
+  seen_shows (lost n l) s r h = more_born n s r h
+  seen_shows (put n) s r h = more_born n s r h
+  seen_shows (restored n) s r h = more_born n s r h
+  seen_shows (dropped n) s r h = record {
+    low = r.low;
+    heard = r.heard;
+    shut = r.shut;
+    born = r.born;
+    dropped = λ m l. times_cons m n s.dropped (name' m ≡ 3) (λ e. ap name' e ∙ h) (r.dropped m) l;
+  }
+  seen_shows x s r h = r
+
+  -- what a tale tells has its ground, and is so
+  abbrev pub Says : Tale → Met → Type 0
+  Says silence m = Unit {0}
+  Says (reply x) m = Ground k a' (enter x m) x × Shown x
+  Says (news n) m = Shown (number n)
+
+  -- what is known of an actor of its Met and Seen, after a tale
+  abbrev pub KnownIs : Known → Type 0
+  KnownIs q = SeenIs p' name' a' q.seen × MetIs k a' q.own × ((i : ℕ) (m : Met) → get_elem? q.gone i ≡ some m → MetIs k a' m)
+
+  pub told_is : (t : Tale) (v : View) → SeenIs p name a v.seen → MetIs k a v.own → ((i : ℕ) (m : Met) → get_elem? v.gone i ≡ some m → MetIs k a m)
+      → p ≤ p' → Grows a a' → Onward name name' → (tell t (known v)).own.begun + a.begun ≤ v.own.begun + a'.begun
+      → ((g : ℕ) → times g (tell t (known v)).own.opened + a.opened g ≤ times g v.own.opened + a'.opened g) → Says t v.own → KnownIs (tell t (known v))
+  told_is silence v seen own gone up g on b o says = (seen_on v.seen seen up g on, met_on v.own own g, λ i m e. met_on m (gone i m e) g)
+  told_is (reply x) v seen own gone up g on b o says =
+      (seen_shows x v.seen (seen_on v.seen seen up g on) says.1, met_enters x v.own own g b o says.0, λ i m e. met_on m (gone i m e) g)
+  told_is (news n) v seen own gone up g on b o says =
+      (seen_shows (number n) v.seen (seen_on v.seen seen up g on) says, met_enters (number n) v.own own g b o says.1, λ i m e. met_on m (gone i m e) g)
 
   pub sits_on : (v : View) → Sits f k p name a v → p ≤ p' → (v.build.right ≡ 1 → p' ≡ p) → Grows a a' → Onward name name' → (v.build.right ≡ 1
       → Builds name name') → Ends f a name name' → Sits f k p' name' a' v

@@ -18,7 +18,7 @@ use Rattle.mf_machine.specs.Steps as row
 use Rattle.mf_machine.specs.Worlds.{World, read, actor, spent_view, first_view}
 use Rattle.mf_machine.proofs.Deeds.{longer, own, mine, here, tells, rises, notes, tale, tale_is, own_at, other_at}
 use Rattle.mf_machine.proofs.Ends.{law}
-use Rattle.mf_machine.proofs.Entering.{Known, known, answer_of, Goes, goes_same, goes_on, enters_by}
+use Rattle.mf_machine.proofs.Entering.{Known, known, answer_of, gone_left, Goes, goes_same, goes_on, enters_by}
 use Rattle.mf_machine.proofs.Lists.{times-append, lines-append, read_at, those_has}
 use Rattle.mf_machine.proofs.Words.{set_in}
 
@@ -94,10 +94,6 @@ enters_own f w id d = let q : Known = known (actor w id) in let e = tells f w id
     append_nothing : (l : List Met) → l ++ [] ≡ l
     append_nothing [] = refl
     append_nothing (x ∷ xs) = ap (λ l. x ∷ l) (append_nothing xs)
-
-    gone_left : (t : Rattle.mf_machine.proofs.Entering.Tale) (q : Known) → (Rattle.mf_machine.proofs.Entering.tell t q).gone ≡ q.gone
-    gone_left Rattle.mf_machine.proofs.Entering.silence q = refl
-    gone_left t q = refl
 
 pub answers_entered : AnswersEntered
 answers_entered = record {

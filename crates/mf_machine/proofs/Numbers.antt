@@ -1,21 +1,23 @@
 -- look and publish
-use Rattle.std.proofs.Common.{◌≡◌, ◌≢◌, ◌⊎◌, ℕ, ◌+◌, ◌<◌, ◌≤◌, List, ◌∷◌, set, sym, refl, ap, ◌∙◌, subst, ⊎_elim, inl, arith}
+use Rattle.std.proofs.Common.{◌≡◌, ◌≢◌, ◌⊎◌, ℕ, ◌+◌, ◌<◌, ◌≤◌, List, ◌∷◌, set, sym, refl, ap, ◌∙◌, subst, ⊎_elim, arith}
 use mathlib.Core.Logic.{dite}
 use mathlib.Core.Option.{some}
 use native.Mathlib.Decide.{ℕ_discrete}
 use lib.ListN.{get_elem?}
 use Rattle.mf_machine.specs.declared.view.View.{View}
 use Rattle.mf_machine.specs.Actors.{Active, Idle}
+use Rattle.mf_machine.specs.Answers.{number}
 use Rattle.mf_machine.specs.Counts.{times, total}
 use Rattle.mf_machine.specs.File.{File, Opening, State, Holds, Home}
 use Rattle.mf_machine.specs.Ruled.{Words, Ruled}
 use Rattle.mf_machine.specs.Steps.{looked, published}
 use Rattle.mf_machine.specs.Sums.{right_of, share_of, publishings, tally}
 use Rattle.mf_machine.specs.Worlds.{counted}
-use Rattle.mf_machine.proofs.Lists.{times_cons, times_here, times_else, times_more}
+use Rattle.mf_machine.proofs.Entering.{reply, news}
+use Rattle.mf_machine.proofs.Lists.{times_here, times_else}
 use Rattle.mf_machine.proofs.Totals.{total_set, total_same, total_two}
-use Rattle.mf_machine.proofs.Frames.{onward_same, builds_same, ends_same, onward_eq, ends_eq, idle_inside, seen_on, build_on, met_on, sits_on}
-use Rattle.mf_machine.proofs.Steps.{Adds, adds_calm, ButNumber, After, grows, pins_same, names_calm, names_move, stepped}
+use Rattle.mf_machine.proofs.Frames.{onward_eq, builds_eq, ends_eq, idle_inside, build_on}
+use Rattle.mf_machine.proofs.Steps.{Adds, adds_calm, ButNumber, After, grows, pins_same, names_calm, part_same, calm, stepped}
 
 -- two actors can't both have the right
 pub one_right : (f : File) (k : Opening) (s : State) (i j : ℕ) (v u : View) → Words f k s → get_elem? s.views i ≡ some v
@@ -24,67 +26,20 @@ one_right f k s i j v u ws a b ne p q = let t = total_two right_of s.views i j v
 
 module _ (f : File) (k : Opening) (s : State) (id i : ℕ) (v : View) (r : Ruled f k s) (at : get_elem? s.views id ≡ some v) (active : Active v)
     (idle : Idle v) where
-  pub looks : Ruled f k (After f k s id v (counted i s.number (looked s.number v)) s.number s.right s.pins s.name s.home)
+  pub looks : Ruled f k (record s { views = set s.views id (counted i s.number (looked s.number v)) })
   looks = let w : View = counted i s.number (looked s.number v) in let mine = r.each id v at in let ws = r.words in
-      let add : Adds v w = adds_calm v w refl refl (omega arith) (λ h. omega arith) in let g = grows f k s.views id v w at add in
-      let on = onward_same s.name in let ends = ends_same f (tally k s.views) s.name in
-      let old = sits_on f k s.number s.number s.name s.name (tally k s.views) (tally k (set s.views id w)) v mine (omega arith) (λ _. refl) g on
-      (λ _. builds_same s.name) ends in
-      stepped f k s id v w s.number s.right s.pins s.name s.home r at
-      (names_move f k s id v w s.number s.right s.pins s.name s.home ws at record {
-        right = refl;
-        share = refl;
-        strays = refl;
-        hold = refl;
-        work = refl;
-        numbers = refl;
-        closings = refl;
-      } refl refl
-      (λ g l. refl) on (names_calm f k s id v w s.number s.right s.pins s.name s.home ws at refl refl (λ n. refl) (λ n. refl)
-      (λ g. omega arith)))
-      (omega arith) (λ j u ne e h. (refl, builds_same s.name)) add on ends
-      record {
-        spent = λ z. absurd (omega arith);
-        strays = old.strays;
-        seen = record {
-          low = omega arith;
-          heard = λ _. let a = ws.number.heard in
-              let b = g.heard s.number in omega arith;
-          shut = old.seen.shut;
-          born = old.seen.born;
-          dropped = old.seen.dropped;
-        };
-        last = λ m e. let is : m ≡ s.number = omega arith in (
-          omega arith,
-          subst (λ z. 0 < times z (s.number ∷ v.own.numbers)) (sym is)
-              (let a = times_here s.number v.own.numbers in omega arith),
-        );
-        right = record {
-          bit = old.right.bit;
-          current = λ _ _. refl;
-          has = old.right.has;
-        };
-        build = record { unborn = old.build.unborn; lost = old.build.lost; settled = old.build.settled };
+      calm f k s id v w (reply (number s.number)) refl r at refl (λ n. part_same n v w refl refl)
+      (λ add g. let a = ws.number.heard in let b = g.heard s.number in (omega arith, (omega arith, omega arith)))
+      (λ g. record {
+        active = active;
+        strays = mine.strays;
+        last = λ m e. let is : m ≡ s.number = omega arith in
+            (omega arith, subst (λ z. 0 < times z (s.number ∷ v.own.numbers)) (sym is) (let a = times_here s.number v.own.numbers in omega arith));
+        right = record { bit = mine.right.bit; current = λ _ _. refl; has = mine.right.has };
+        build = record { unborn = mine.build.unborn; lost = mine.build.lost; settled = mine.build.settled };
         pins = λ g h. let t = mine.pins g h in (t.0, let a = t.1 in omega arith, t.2);
         inside = idle_inside f s.name w.inside w.hold w.work w.last w.build w.own idle (λ n e. mine.inside.getting n e);
-        own =
-            record {
-              numbers = λ n h. times_cons n s.number v.own.numbers (0 < (tally k (set s.views id w)).heard n) (λ e. subst
-                  (λ z. 0 < (tally k (set s.views id w)).heard z) (sym e) (let a = ws.number.heard in
-                  let b = g.heard s.number in omega arith)) (λ q. old.own.numbers n q) h;
-              refused = old.own.refused;
-              missed = old.own.missed;
-              closed = old.own.closed;
-              already = old.own.already;
-              pinned = old.own.pinned;
-              unborn = old.own.unborn;
-              here = old.own.here;
-              lost = old.own.lost;
-              not_lost = old.own.not_lost;
-              not_dropped = old.own.not_dropped;
-            };
-        gone = old.gone;
-      }
+      })
 
   -- publish: what the actor that has the right and has looked since its begin may publish
   pub publishes : (m x y p' r' : ℕ) (pins' name' : ℕ → ℕ) (home' : ℕ → Home) → v.build.right ≡ 1 → v.build.looked ≡ 1 → v.last ≡ m + 1
@@ -94,37 +49,22 @@ module _ (f : File) (k : Opening) (s : State) (id i : ℕ) (v : View) (r : Ruled
       → Ruled f k (After f k s id v (counted i y (published x v)) p' r' pins' name' home')
   publishes m x y p' r' pins' name' home' has since last may ep but = let er = but.right in let epins = but.pins in let ename = but.names in
       let ehome = but.homes in let w : View = counted i y (published x v) in let vs' : List View = set s.views id w in let mine = r.each id v at in
-      let ws = r.words in
-      let is : m ≡ s.number = (let c = mine.right.current has since in omega arith) in
+      let ws = r.words in let is : m ≡ s.number = (let c = mine.right.current has since in omega arith) in
       let above : s.number < x = ⊎_elim (λ t. let a = t.0 in omega arith) (λ t. let a = t.0 in let b = t.2 in omega arith) may in
       let top : x ≤ f.stages + 1 = ⊎_elim (λ t. let a = t.1 in omega arith) (λ t. let a = t.0 in omega arith) may in
-      let add : Adds v w = record {
-        numbers = λ n. times_more n x v.made.numbers;
-        closings = λ g. omega arith;
-        lost_by = λ n l. omega arith;
-        raises = λ n. omega arith;
-        sinks = λ n. omega arith;
-        hides = λ n. omega arith;
-        begun = omega arith;
-        opened = λ g. omega arith;
-      } in
-      let g = grows f k s.views id v w at add in
-      let on = onward_eq s.name name' ename in let ends = ends_eq f (tally k s.views) s.name name' ename in
+      let add : Adds v w = adds_calm (news x) v w refl refl in let g = grows f k s.views id v w at add in
       let unheard : total (publishings x) s.views ≡ 0 = dite (ℕ_discrete (total (publishings x) s.views) 0) (λ e. e)
       (λ ne. let t = ws.number.once x (omega arith) in let u = t.2 in absurd (omega arith)) in
       let heard : total (publishings x) vs' ≡ 1 = (let a = total_set (publishings x) s.views id v w at in
       let b = times_here x v.made.numbers in omega arith) in
       let else_where : (n : ℕ) → n ≢ x
       → total (publishings n) vs' ≡ total (publishings n) s.views = λ n ne. total_same (publishings n) s.views id v w at (times_else n x v.made.numbers ne) in
-      let now : 0 < (tally k vs').heard x = omega arith in
-      let seen = seen_on f k s.number p' s.name name' (tally k s.views) (tally k vs') v.seen mine.seen (omega arith) g on in
-      let own = met_on f k s.number p' s.name name' (tally k s.views) (tally k vs') v.own mine.own g in
-      stepped f k s id v w p' r' pins' name' home' r at
+      stepped f k s id v w p' r' pins' name' home' (news x) refl r at
       record {
         number = record {
           top = omega arith;
           floor = let a = ws.number.floor in omega arith;
-          heard = subst (λ z. 0 < (tally k vs').heard z) (sym ep) now;
+          heard = subst (λ z. 0 < (tally k vs').heard z) (sym ep) (let a = heard in omega arith);
           once = λ n h. dite (ℕ_discrete n x) (λ e. (
             ap (λ z. total (publishings z) vs') e ∙ heard,
             let a = ws.number.floor in omega arith,
@@ -142,51 +82,16 @@ module _ (f : File) (k : Opening) (s : State) (id i : ℕ) (v : View) (r : Ruled
             (λ y. Holds f y n) same hold)) (sym (ename n) ∙ z)) (λ t z. let u = t.0 in omega arith) may)
             (λ ne z. let a = else_where (g + 1) ne in ws.born g l (omega arith) n q hold (sym (ename n) ∙ z));
       }
-      (omega arith) (λ j u ne e h. absurd (one_right f k s id j v u ws at e ne has h)) add on ends
+      (omega arith) (λ j u ne e h. absurd (one_right f k s id j v u ws at e ne has h)) add (onward_eq s.name name' ename)
+      (ends_eq f (tally k s.views) s.name name' ename) (let a = heard in (omega arith, omega arith))
       record {
-        spent = λ z. absurd (omega arith);
+        active = active;
         strays = mine.strays;
-        seen = record {
-          low = omega arith;
-          heard = λ _. now;
-          shut = seen.shut;
-          born = seen.born;
-          dropped = seen.dropped;
-        };
-        last = λ n e. let same : n ≡ x = omega arith in (
-          omega arith,
-          subst
-              (λ z. 0 < times z (x ∷ v.own.numbers)) (sym same) (let a = times_here x v.own.numbers in omega arith),
-        );
-        right =
-            record { bit = mine.right.bit; current = λ _ _. omega arith; has = mine.right.has };
-        build = (let b = build_on f k s.number p' s.name name' (tally k s.views) (tally k vs') v.build v.inside mine.build on (λ _.
-            record { unborn = λ n e. ename n ∙ e; lost = λ n e. let q = ename n in inl (omega arith) }) in record {
-              unborn = b.unborn;
-              lost = b.lost;
-              settled = b.settled;
-            });
-        pins = λ g h. let t = mine.pins g h in (
-          t.0,
-          let a = t.1 in omega arith,
-          t.2,
-        );
-        inside = idle_inside f name' w.inside w.hold w.work w.last w.build w.own idle
-            (λ n e. mine.inside.getting n e);
-        own = record {
-          numbers = λ n h. times_cons n x v.own.numbers (0 < (tally k vs').heard n) (λ e. subst
-              (λ z. 0 < (tally k vs').heard z) (sym e) now) (λ q. own.numbers n q) h;
-          refused = own.refused;
-          missed = own.missed;
-          closed = own.closed;
-          already = own.already;
-          pinned = own.pinned;
-          unborn = own.unborn;
-          here = own.here;
-          lost = own.lost;
-          not_lost = own.not_lost;
-          not_dropped = own.not_dropped;
-        };
-        gone = λ j m e. met_on f k s.number p' s.name name' (tally k s.views)
-            (tally k vs') m (mine.gone j m e) g;
+        last = λ n e. let same : n ≡ x = omega arith in
+            (omega arith, subst (λ z. 0 < times z (x ∷ v.own.numbers)) (sym same) (let a = times_here x v.own.numbers in omega arith));
+        right = record { bit = mine.right.bit; current = λ _ _. omega arith; has = mine.right.has };
+        build = (let b = build_on f k s.number p' s.name name' (tally k s.views) (tally k vs') v.build v.inside mine.build (onward_eq s.name name' ename)
+            (λ _. builds_eq s.name name' ename) in record { unborn = b.unborn; lost = b.lost; settled = b.settled });
+        pins = λ g h. let t = mine.pins g h in (t.0, let a = t.1 in omega arith, t.2);
+        inside = idle_inside f name' w.inside w.hold w.work w.last w.build w.own idle (λ n e. mine.inside.getting n e);
       }

@@ -5,10 +5,12 @@ use native.Mathlib.Decide.{ℕ_discrete, dec_le}
 use Rattle.mf_machine.specs.declared.view.Met.{Met}
 use Rattle.mf_machine.specs.declared.view.View.{View}
 use Rattle.mf_machine.specs.Actors.{live}
-use Rattle.mf_machine.specs.Counts.{bit, truth, times, total}
+use Rattle.mf_machine.specs.Answers.{Answer, often}
+use Rattle.mf_machine.specs.Answers as answer
+use Rattle.mf_machine.specs.Counts.{bit, truth, total}
 use Rattle.mf_machine.specs.File.{File, Opening, State}
 use Rattle.mf_machine.specs.Kept.{IsActor, IsClosed, HasSeen, HasTaken, IsMetOf, Number, Pins, Born, Seen, Builder}
-use Rattle.mf_machine.specs.Kept.{Dropped, Cells, Accounted, Causes, Kept}
+use Rattle.mf_machine.specs.Kept.{Dropped, Cells, Accounted, Cause, Kept}
 use Rattle.mf_machine.specs.Rest.{Rest}
 use Rattle.mf_machine.specs.Ruled.{MetIs, Ruled}
 use Rattle.mf_machine.specs.Sums.{publishings, closings, puts, loses, loses_by, restores, drops, in_get, in_birth}
@@ -75,13 +77,13 @@ module _ (f : File) (k : Opening) (s : State) (rest : Rest f k) (r : Ruled f k s
   -- a number that an actor has seen was heard
   seen_heard : (j : ℕ) (v : View) → IsActor s j v → (m : ℕ) → 0 < m → HasSeen v m → 0 < A.heard m
   seen_heard j v at m some_m saw = let mine = r.each j v at in ⊎_elim (λ e. subst (λ z. 0 < A.heard z) (sym e) (mine.seen.heard (omega arith)))
-      (λ t. (met_is j v at t.0 t.1).numbers m t.2) saw
+      (λ t. met_is j v at t.0 t.1 (answer.number m) t.2) saw
 
   pub number : Number f s
   number = record {
     top = r.words.number.top;
     seen = λ j v at m saw. let mine = r.each j v at in ⊎_elim (λ e. let a = mine.seen.low in omega arith)
-        (λ t. heard_low m ((met_is j v at t.0 t.1).numbers m t.2)) saw;
+        (λ t. heard_low m (met_is j v at t.0 t.1 (answer.number m) t.2)) saw;
     holder = λ j v at h l. (r.each j v at).right.current h l;
   }
 
@@ -197,40 +199,37 @@ module _ (f : File) (k : Opening) (s : State) (rest : Rest f k) (r : Ruled f k s
         (λ q. let b = bits_lost (s.name n) q in let b₂ = b.1 in let b₄ = b.3 in omega arith)
         (λ q. let is = bits_low (s.name n) 2 (bit_eq (s.name n) 2 (omega arith)) in let b₄ = is.3 in omega arith) t;
     kept = λ n l ne small none. let e = (r.words.names n l).lost ne in let z = lost_not (s.name n) small in omega arith;
-    line = λ n l b e. ⊎_elim (λ a. inl (bit_eq (k.name n) (4 + l) a)) (λ a. inr a) (either (bit (k.name n) (4 + l)) (total (loses_by n l) s.views)
+    line = λ n b l e. ⊎_elim (λ a. inl (bit_eq (k.name n) (4 + l) a)) (λ a. inr a) (either (bit (k.name n) (4 + l)) (total (loses_by n l) s.views)
         ((r.words.names n b).line l e).0);
   }
 
-  pub causes : (m : Met) → MetIs k A m → Causes k s m
-  causes m q = record {
-    number = λ n h. ⊎_elim (λ a. inl (sym (bit_eq k.number n a))) (λ a. inr a) (either (bit k.number n) (total (publishings n) s.views)
-        (q.numbers n h));
-    closed = λ g h. ⊎_elim (λ a. inl (truth_true (k.closed g) a)) (λ a. inr a) (either (truth (k.closed g)) (total (closings g) s.views) (⊎_elim
-        (λ a. q.already g a) (λ a. q.missed g a) (either (times g m.already) (times g m.missed) h)));
-    unborn = q.unborn;
-    lost = λ n l h. ⊎_elim (λ a. inl (bit_eq (k.name n) (4 + l) a)) (λ a. inr a) (either (bit (k.name n) (4 + l)) (total (loses_by n l) s.views)
-        (q.lost n l h));
-    here = λ n h. let p = raises_parts n s.views in ⊎_elim (λ a. inl (bit_eq (k.name n) 1 a))
-        (λ a. inr (⊎_elim (λ a. ⊎_elim (λ a. ⊎_elim (λ a. inl a) (λ a. inr (inl a)) (either (total (puts n) s.views) (total (restores n) s.views) a))
-        (λ a. inr (inr (inl a))) (either (total (puts n) s.views + total (restores n) s.views) (total (in_birth n) s.views) a))
-        (λ a. inr (inr (inr a)))
-        (either (total (puts n) s.views + total (restores n) s.views + total (in_birth n) s.views) (total (in_retake n) s.views) (omega arith))))
-        (either (bit (k.name n) 1) (total (raises n) s.views) (q.here n h));
-    not_lost = λ n h. let p = sinks_parts n s.views in let c = q.not_lost n h in ⊎_elim
-        (λ a. ⊎_elim (λ a. ⊎_elim (λ a. inl (bit_eq (k.name n) 0 a)) (λ a. inr (inr (inl (bit_eq (k.name n) 3 a)))) (either (bit (k.name n) 0)
-        (bit (k.name n) 3) a)) (λ a. inr (inl (lost_bit_is (k.name n) a))) (either (bit (k.name n) 0 + bit (k.name n) 3) (lost_bit (k.name n)) a))
-        (λ a. inr (inr (inr (⊎_elim (λ a. inl a) (λ a. inr a) (either (total (loses n) s.views) (total (drops n) s.views) (omega arith))))))
-        (either (bit (k.name n) 0 + bit (k.name n) 3 + lost_bit (k.name n)) (total (sinks n) s.views) c);
-    not_dropped = λ n h. let p = hides_parts n s.views in let c = q.not_dropped n h in ⊎_elim
-        (λ a. ⊎_elim (λ a. inl (bit_eq (k.name n) 0 a)) (λ a. inr (inl (bit_eq (k.name n) 3 a))) (either (bit (k.name n) 0) (bit (k.name n) 3) a))
-        (λ a. inr (inr (⊎_elim (λ a. ⊎_elim (λ a. ⊎_elim (λ a. inl a) (λ a. inr (inl a)) (either (total (loses n) s.views)
-        (total (drops n) s.views) a)) (λ a. inr (inr (inl a))) (either (total (loses n) s.views + total (drops n) s.views)
-        (total (in_lose n) s.views) a)) (λ a. inr (inr (inr a)))
-        (either (total (loses n) s.views + total (drops n) s.views + total (in_lose n) s.views) (total (in_drop n) s.views) (omega arith)))))
-        (either (bit (k.name n) 0 + bit (k.name n) 3) (total (hides n) s.views) c);
-    refused = q.refused;
-    pinned = q.pinned;
-  }
+  pub causes : (m : Met) → MetIs k A m → (x : Answer) → 0 < often x m → Cause k s m x
+  causes m q (answer.number n) h = ⊎_elim (λ a. inl (sym (bit_eq k.number n a))) (λ a. inr a) (either (bit k.number n) (total (publishings n) s.views) (q (answer.number n) h))
+  causes m q (answer.missed g) h = ⊎_elim (λ a. inl (truth_true (k.closed g) a)) (λ a. inr a) (either (truth (k.closed g)) (total (closings g) s.views) (q (answer.missed g) h))
+  causes m q (answer.already g) h = ⊎_elim (λ a. inl (truth_true (k.closed g) a)) (λ a. inr a) (either (truth (k.closed g)) (total (closings g) s.views) (q (answer.already g) h))
+  causes m q (answer.unborn n) h = q (answer.unborn n) h
+  causes m q (answer.lost n l) h = ⊎_elim (λ a. inl (bit_eq (k.name n) (4 + l) a)) (λ a. inr a) (either (bit (k.name n) (4 + l)) (total (loses_by n l) s.views) (q (answer.lost n l) h))
+  causes m q (answer.here n) h = let p = raises_parts n s.views in ⊎_elim (λ a. inl (bit_eq (k.name n) 1 a))
+      (λ a. inr (⊎_elim (λ a. ⊎_elim (λ a. ⊎_elim (λ a. inl a) (λ a. inr (inl a)) (either (total (puts n) s.views) (total (restores n) s.views) a))
+      (λ a. inr (inr (inl a))) (either (total (puts n) s.views + total (restores n) s.views) (total (in_birth n) s.views) a))
+      (λ a. inr (inr (inr a)))
+      (either (total (puts n) s.views + total (restores n) s.views + total (in_birth n) s.views) (total (in_retake n) s.views) (omega arith))))
+      (either (bit (k.name n) 1) (total (raises n) s.views) (q (answer.here n) h))
+  causes m q (answer.not_lost n) h = let p = sinks_parts n s.views in let c = q (answer.not_lost n) h in ⊎_elim
+      (λ a. ⊎_elim (λ a. ⊎_elim (λ a. inl (bit_eq (k.name n) 0 a)) (λ a. inr (inr (inl (bit_eq (k.name n) 3 a)))) (either (bit (k.name n) 0)
+      (bit (k.name n) 3) a)) (λ a. inr (inl (lost_bit_is (k.name n) a))) (either (bit (k.name n) 0 + bit (k.name n) 3) (lost_bit (k.name n)) a))
+      (λ a. inr (inr (inr (⊎_elim (λ a. inl a) (λ a. inr a) (either (total (loses n) s.views) (total (drops n) s.views) (omega arith))))))
+      (either (bit (k.name n) 0 + bit (k.name n) 3 + lost_bit (k.name n)) (total (sinks n) s.views) c)
+  causes m q (answer.not_dropped n) h = let p = hides_parts n s.views in let c = q (answer.not_dropped n) h in ⊎_elim
+      (λ a. ⊎_elim (λ a. inl (bit_eq (k.name n) 0 a)) (λ a. inr (inl (bit_eq (k.name n) 3 a))) (either (bit (k.name n) 0) (bit (k.name n) 3) a))
+      (λ a. inr (inr (⊎_elim (λ a. ⊎_elim (λ a. ⊎_elim (λ a. inl a) (λ a. inr (inl a)) (either (total (loses n) s.views)
+      (total (drops n) s.views) a)) (λ a. inr (inr (inl a))) (either (total (loses n) s.views + total (drops n) s.views)
+      (total (in_lose n) s.views) a)) (λ a. inr (inr (inr a)))
+      (either (total (loses n) s.views + total (drops n) s.views + total (in_lose n) s.views) (total (in_drop n) s.views) (omega arith)))))
+      (either (bit (k.name n) 0 + bit (k.name n) 3) (total (hides n) s.views) c)
+  causes m q answer.refused h = q answer.refused h
+  causes m q (answer.pinned g p o) h = q (answer.pinned g p o) h
+  causes m q x h = tt
 
   pub kept : Kept f k s
   kept = record {

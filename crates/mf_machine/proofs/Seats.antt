@@ -8,6 +8,7 @@ use Rattle.mf_machine.specs.declared.view.Met.{Met}
 use Rattle.mf_machine.specs.declared.view.Seen.{Seen}
 use Rattle.mf_machine.specs.declared.view.View.{View}
 use Rattle.mf_machine.specs.Actors.{Active, Free, live}
+use Rattle.mf_machine.specs.Answers.{Answer, begun, often}
 use Rattle.mf_machine.specs.Counts.{bit, times, total, beyond}
 use Rattle.mf_machine.specs.File.{File, Opening, State}
 use Rattle.mf_machine.specs.Ruled.{SeenIs, MetIs, Words, Sits, SitsIn, Ruled}
@@ -91,20 +92,12 @@ pub sits_equal : (f : File) (k : Opening) (s : State) (vs' : List View) → Equa
 sits_equal f k s vs' q u r = sits_on f k s.number s.number s.name s.name (tally k s.views) (tally k vs') u r (omega arith) (λ _. refl)
     (grows_equal k s.views vs' q) (onward_same s.name) (λ _. builds_same s.name) (ends_same f (tally k s.views) s.name)
 
+pub nothing_often : (a : Answer) → often a nothing_met ≡ 0
+nothing_often begun = refl
+nothing_often a = refl
+
 pub met_nothing : (k : Opening) (a : Tally) → MetIs k a nothing_met
-met_nothing k a = record {
-  numbers = λ n h. absurd (omega arith);
-  refused = λ h. absurd (omega arith);
-  missed = λ n h. absurd (omega arith);
-  closed = λ n h. absurd (omega arith);
-  already = λ n h. absurd (omega arith);
-  pinned = λ n h. absurd (omega arith);
-  unborn = λ n h. absurd (omega arith);
-  here = λ n h. absurd (omega arith);
-  lost = λ n l h. absurd (omega arith);
-  not_lost = λ n h. absurd (omega arith);
-  not_dropped = λ n h. absurd (omega arith);
-}
+met_nothing k a x h = let z = nothing_often x in absurd (omega arith)
 
 -- an empty slot has no number
 pub zero_has : (n : ℕ) → bit 0 (n + 1) ≡ 0

@@ -1,21 +1,23 @@
 -- A step of one actor: what it leaves of the words, and of all other actors.
-use Rattle.std.proofs.Common.{◌≡◌, ◌≢◌, ℕ, ◌+◌, ◌*◌, ◌<◌, ◌≤◌, List, set, sym, ap, ◌∙◌, subst, ⊎_elim, arith}
+use Rattle.std.proofs.Common.{◌≡◌, ◌≢◌, ℕ, ◌+◌, ◌*◌, ◌<◌, ◌≤◌, List, set, sym, refl, ap, ◌∙◌, subst, ⊎_elim, arith}
 use mathlib.Core.Option.{some}
 use lib.ListN.{get_elem?}
 use Rattle.mf_machine.specs.declared.view.Changes.{Changes}
 use Rattle.mf_machine.specs.declared.view.Inside.{Inside}
-use Rattle.mf_machine.specs.declared.view.Made.{Made}
 use Rattle.mf_machine.specs.declared.view.View.{View}
 use Rattle.mf_machine.specs.Actors.{has, on, live}
-use Rattle.mf_machine.specs.Counts.{bit, times, losses, lines, total}
+use Rattle.mf_machine.specs.Counts.{bit, times, losses, lines, total, all_begun, all_opened}
 use Rattle.mf_machine.specs.File.{File, Opening, State, Holds, Home, HasCell}
-use Rattle.mf_machine.specs.Ruled.{NumberIs, PinsAre, NameIs, Words, SitsIn, Ruled}
+use Rattle.mf_machine.specs.Answers.{closed}
+use Rattle.mf_machine.specs.Ruled.{Sits, StraysKnow, LastIs, RightIs, BuildIs, PinsKnow, InsideIs, NumberIs, PinsAre, NameIs, Words, SitsIn, Ruled}
 use Rattle.mf_machine.specs.Sums.{right_of, share_of, stray, pins, publishings, closings, puts, loses, loses_by}
 use Rattle.mf_machine.specs.Sums.{restores, drops, in_get, in_birth, in_retake, in_lose, in_drop, begun_of, opened_of}
-use Rattle.mf_machine.specs.Sums.{raises, sinks, hides, lost_bit, tally, counts}
+use Rattle.mf_machine.specs.Sums.{raises, sinks, hides, lost_bit, Tally, tally, Counts, counts}
+use Rattle.mf_machine.specs.Worlds.{spent_view}
 use Rattle.mf_machine.proofs.Lists.{at_set}
-use Rattle.mf_machine.proofs.Totals.{total_same, total_grows}
-use Rattle.mf_machine.proofs.Frames.{Grows, Onward, Builds, Ends, sits_on}
+use Rattle.mf_machine.proofs.Entering.{Tale, silence, reply, Known, known, tell, gone_left}
+use Rattle.mf_machine.proofs.Totals.{total_set, total_same, total_grows}
+use Rattle.mf_machine.proofs.Frames.{Grows, Onward, Builds, Ends, onward_same, builds_same, ends_same, onward_eq, builds_eq, ends_eq, Says, KnownIs, told_is, sits_on}
 
 -- what the actor adds to the tally doesn't fall
 pub record Adds (v w : View) : Type 0 where
@@ -28,57 +30,127 @@ pub record Adds (v w : View) : Type 0 where
   pub begun : begun_of v ≤ begun_of w
   pub opened : (g : ℕ) → opened_of g v ≤ opened_of g w
 
--- a step that makes nothing
-pub adds_calm : (v w : View) → w.made ≡ v.made → w.inside ≡ v.inside → begun_of v ≤ begun_of w → ((g : ℕ) → opened_of g v ≤ opened_of g w) → Adds v w
-adds_calm v w m i begun opened = record {
-  numbers = λ n. let e = ap (λ (z : Made). times n z.numbers) m in omega arith;
-  closings = λ g. let e = ap (λ (z : Made). times g z.closings) m in omega arith;
-  lost_by = λ n l. let e = ap (λ (z : Made). lines n l z.changes.lost) m in omega arith;
-  raises = λ n. let e = ap (λ (z : Made). times n z.changes.put + times n z.changes.restored) m in
-      let d = ap (λ (z : Inside). has n z.bearing + has n z.retaking) i in omega arith;
-  sinks = λ n. let e = ap (λ (z : Made). losses n z.changes.lost + times n z.changes.dropped) m in omega arith;
-  hides = λ n. let e = ap (λ (z : Made). losses n z.changes.lost + times n z.changes.dropped) m in
-      let d = ap (λ (z : Inside). has n z.losing + has n z.dropping) i in omega arith;
-  begun = begun;
-  opened = opened;
+-- so it is after a tale, but for what the actor is inside of
+abbrev adds_of : Known → View
+adds_of q = record spent_view { own = q.own; made = q.made; gone = q.gone }
+
+adds_told : (t : Tale) (q : Known) → Adds (adds_of q) (adds_of (tell t q))
+adds_told silence q = all_same q
+  where
+    all_same : (q : Known) → Adds (adds_of q) (adds_of q)
+    all_same q = record {
+      numbers = λ n. omega arith;
+      closings = λ n. omega arith;
+      lost_by = λ n l. omega arith;
+      raises = λ n. omega arith;
+      sinks = λ n. omega arith;
+      hides = λ n. omega arith;
+      begun = omega arith;
+      opened = λ n. omega arith;
+    }
+adds_told (reply (closed g)) q = record {
+  numbers = λ n. omega arith;
+  closings = λ n. omega arith;
+  lost_by = λ n l. omega arith;
+  raises = λ n. omega arith;
+  sinks = λ n. omega arith;
+  hides = λ n. omega arith;
+  begun = omega arith;
+  opened = λ n. omega arith;
+}
+adds_told t q = record {
+  numbers = λ n. omega arith;
+  closings = λ n. omega arith;
+  lost_by = λ n l. omega arith;
+  raises = λ n. omega arith;
+  sinks = λ n. omega arith;
+  hides = λ n. omega arith;
+  begun = omega arith;
+  opened = λ n. omega arith;
 }
 
--- the same for the sums of one name
+pub adds_by : (t : Tale) (v w : View) → known w ≡ tell t (known v) → ((n : ℕ) → raises n v ≤ raises n w) → ((n : ℕ) → hides n v ≤ hides n w) → Adds v w
+adds_by t v w e raised hidden = let a : Adds (adds_of (known v)) (adds_of (known w)) = subst (λ q. Adds (adds_of (known v)) (adds_of q)) (sym e) (adds_told t (known v)) in
+    record { numbers = a.numbers; closings = a.closings; lost_by = a.lost_by; raises = raised; sinks = a.sinks; hides = hidden; begun = a.begun; opened = a.opened }
+
+-- a step that changes nothing that the actor is inside of
+pub adds_calm : (t : Tale) (v w : View) → known w ≡ tell t (known v) → w.inside ≡ v.inside → Adds v w
+adds_calm t v w e i = let a : Adds (adds_of (known v)) (adds_of (known w)) = subst (λ q. Adds (adds_of (known v)) (adds_of q)) (sym e) (adds_told t (known v)) in
+    adds_by t v w e (λ n. let b = a.raises n in let d = ap (λ (z : Inside). has n z.bearing + has n z.retaking) i in omega arith)
+    (λ n. let b = a.hides n in let d = ap (λ (z : Inside). has n z.losing + has n z.dropping) i in omega arith)
+
+-- the sums of one name, of one actor
+abbrev pub parts : ℕ → View → Counts
+parts n v = record {
+  in_get = in_get n v;
+  in_birth = in_birth n v;
+  in_retake = in_retake n v;
+  in_lose = in_lose n v;
+  in_drop = in_drop n v;
+  puts = puts n v;
+  loses = loses n v;
+  restores = restores n v;
+  drops = drops n v;
+}
+
+-- they and the losses by each line don't change
 pub record Part (n : ℕ) (v w : View) : Type 0 where
-  pub in_get : in_get n w ≡ in_get n v
-  pub in_birth : in_birth n w ≡ in_birth n v
-  pub in_retake : in_retake n w ≡ in_retake n v
-  pub in_lose : in_lose n w ≡ in_lose n v
-  pub in_drop : in_drop n w ≡ in_drop n v
-  pub puts : puts n w ≡ puts n v
-  pub loses : loses n w ≡ loses n v
-  pub restores : restores n w ≡ restores n v
-  pub drops : drops n w ≡ drops n v
+  pub counts : parts n w ≡ parts n v
   pub lost_by : (l : ℕ) → loses_by n l w ≡ loses_by n l v
 
 pub part_same : (n : ℕ) (v w : View) → w.made.changes ≡ v.made.changes → w.inside ≡ v.inside → Part n v w
 part_same n v w c i = record {
-  in_get = ap (λ (z : Inside). has n z.getting) i;
-  in_birth = ap (λ (z : Inside). has n z.bearing) i;
-  in_retake = ap (λ (z : Inside). has n z.retaking) i;
-  in_lose = ap (λ (z : Inside). has n z.losing) i;
-  in_drop = ap (λ (z : Inside). has n z.dropping) i;
-  puts = ap (λ (z : Changes). times n z.put) c;
-  loses = ap (λ (z : Changes). losses n z.lost) c;
-  restores = ap (λ (z : Changes). times n z.restored) c;
-  drops = ap (λ (z : Changes). times n z.dropped) c;
+  counts = λ j. record {
+    in_get = has n (i j).getting;
+    in_birth = has n (i j).bearing;
+    in_retake = has n (i j).retaking;
+    in_lose = has n (i j).losing;
+    in_drop = has n (i j).dropping;
+    puts = times n (c j).put;
+    loses = losses n (c j).lost;
+    restores = times n (c j).restored;
+    drops = times n (c j).dropped;
+  };
   lost_by = λ l. ap (λ (z : Changes). lines n l z.lost) c;
 }
 
+-- what the sums of one name become
+pub record Moved (c c' a b : Counts) : Type 0 where
+  pub in_get : c'.in_get + a.in_get ≡ c.in_get + b.in_get
+  pub in_birth : c'.in_birth + a.in_birth ≡ c.in_birth + b.in_birth
+  pub in_retake : c'.in_retake + a.in_retake ≡ c.in_retake + b.in_retake
+  pub in_lose : c'.in_lose + a.in_lose ≡ c.in_lose + b.in_lose
+  pub in_drop : c'.in_drop + a.in_drop ≡ c.in_drop + b.in_drop
+  pub puts : c'.puts + a.puts ≡ c.puts + b.puts
+  pub loses : c'.loses + a.loses ≡ c.loses + b.loses
+  pub restores : c'.restores + a.restores ≡ c.restores + b.restores
+  pub drops : c'.drops + a.drops ≡ c.drops + b.drops
+
+pub moved : (n : ℕ) (vs : List View) (id : ℕ) (v w : View) → get_elem? vs id ≡ some v → Moved (counts n vs) (counts n (set vs id w)) (parts n v) (parts n w)
+moved n vs id v w at = record {
+  in_get = total_set (in_get n) vs id v w at;
+  in_birth = total_set (in_birth n) vs id v w at;
+  in_retake = total_set (in_retake n) vs id v w at;
+  in_lose = total_set (in_lose n) vs id v w at;
+  in_drop = total_set (in_drop n) vs id v w at;
+  puts = total_set (puts n) vs id v w at;
+  loses = total_set (loses n) vs id v w at;
+  restores = total_set (restores n) vs id v w at;
+  drops = total_set (drops n) vs id v w at;
+}
+
 -- the words of the gate know an actor by these
-pub record Gate (v w : View) : Type 0 where
-  pub right : w.build.right ≡ v.build.right
-  pub share : w.share ≡ v.share
-  pub strays : w.strays ≡ v.strays
-  pub hold : w.hold ≡ v.hold
-  pub work : w.work ≡ v.work
-  pub numbers : w.made.numbers ≡ v.made.numbers
-  pub closings : w.made.closings ≡ v.made.closings
+pub record Gate : Type 0 where
+  pub right : ℕ
+  pub share : ℕ
+  pub strays : List ℕ
+  pub hold : ℕ
+  pub work : ℕ
+  pub numbers : List ℕ
+  pub closings : List ℕ
+
+abbrev pub gate : View → Gate
+gate v = record { right = v.build.right; share = v.share; strays = v.strays; hold = v.hold; work = v.work; numbers = v.made.numbers; closings = v.made.closings }
 
 -- a step on the pins of g leaves all else
 pub record ButPins (s : State) (g p' r' : ℕ) (pins' name' : ℕ → ℕ) (home' : ℕ → Home) : Type 0 where
@@ -135,11 +207,17 @@ module _ (f : File) (k : Opening) (vs : List View) (id : ℕ) (v w : View) (at :
   pub name_else : (n x x' : ℕ) (h h' : Home) (sh sh' : ℕ → ℕ) → NameIs f k n x h (counts n vs) ((tally k vs).lost_by n) sh → Part n v w → x' ≡ x
       → h' ≡ h → ((g : ℕ) → sh g ≤ sh' g)
       → NameIs f k n x' h' (counts n (set vs id w)) ((tally k (set vs id w)).lost_by n) sh'
-  name_else n x x' h h' sh sh' r p ex eh up = let c₁ = total_same (in_get n) vs id v w at p.in_get in
-      let c₂ = total_same (in_birth n) vs id v w at p.in_birth in let c₃ = total_same (in_retake n) vs id v w at p.in_retake in
-      let c₄ = total_same (in_lose n) vs id v w at p.in_lose in let c₅ = total_same (in_drop n) vs id v w at p.in_drop in
-      let c₆ = total_same (puts n) vs id v w at p.puts in let c₇ = total_same (loses n) vs id v w at p.loses in
-      let c₈ = total_same (restores n) vs id v w at p.restores in let c₉ = total_same (drops n) vs id v w at p.drops in
+  name_else n x x' h h' sh sh' r p ex eh up = let m = moved n vs id v w at in let e = p.counts in
+      let c : Counts = counts n vs in let c' : Counts = counts n (set vs id w) in
+      let c₁ : c'.in_get ≡ c.in_get = (let a = m.in_get in let b = ap (λ (z : Counts). z.in_get) e in omega arith) in
+      let c₂ : c'.in_birth ≡ c.in_birth = (let a = m.in_birth in let b = ap (λ (z : Counts). z.in_birth) e in omega arith) in
+      let c₃ : c'.in_retake ≡ c.in_retake = (let a = m.in_retake in let b = ap (λ (z : Counts). z.in_retake) e in omega arith) in
+      let c₄ : c'.in_lose ≡ c.in_lose = (let a = m.in_lose in let b = ap (λ (z : Counts). z.in_lose) e in omega arith) in
+      let c₅ : c'.in_drop ≡ c.in_drop = (let a = m.in_drop in let b = ap (λ (z : Counts). z.in_drop) e in omega arith) in
+      let c₆ : c'.puts ≡ c.puts = (let a = m.puts in let b = ap (λ (z : Counts). z.puts) e in omega arith) in
+      let c₇ : c'.loses ≡ c.loses = (let a = m.loses in let b = ap (λ (z : Counts). z.loses) e in omega arith) in
+      let c₈ : c'.restores ≡ c.restores = (let a = m.restores in let b = ap (λ (z : Counts). z.restores) e in omega arith) in
+      let c₉ : c'.drops ≡ c.drops = (let a = m.drops in let b = ap (λ (z : Counts). z.drops) e in omega arith) in
       let b₀ = ap (λ y. bit y 0) ex in let b₂ = ap (λ y. bit y 2) ex in let b₃ = ap (λ y. bit y 3) ex in let b₄ = ap lost_bit ex in record {
         taken = let t = r.taken in omega arith;
         born = let t = r.born in omega arith;
@@ -170,52 +248,127 @@ module _ (f : File) (k : Opening) (vs : List View) (id : ℕ) (v w : View) (at :
       pins_eq p p' g x x' ((tally k vs).shuts g) ((tally k (set vs id w)).shuts g) (total (live g) vs) (total (live g) (set vs id w))
       (total (pins g) vs) (total (pins g) (set vs id w)) r up e (omega arith) a b
 
-  pub live_same : (g : ℕ) → Gate v w → live g w ≡ live g v
-  live_same g a = λ i. on g (a.hold i) (a.work i)
+  pub live_same : (g : ℕ) → gate w ≡ gate v → live g w ≡ live g v
+  live_same g a = ap (λ (z : Gate). on g z.hold z.work) a
 
 module _ (f : File) (k : Opening) (s : State) (id : ℕ) (v w : View) (p' r' : ℕ) (pins' name' : ℕ → ℕ) (home' : ℕ → Home) where
   abbrev pub After : State
   After = record { number = p'; right = r'; pins = pins'; name = name'; home = home'; views = set s.views id w }
 
   -- the words after a step on names: what the gate's words show stays
-  pub names_move : Words f k s → get_elem? s.views id ≡ some v → Gate v w → p' ≡ s.number → r' ≡ s.right → ((g : ℕ) → g < f.stages
+  pub names_move : Words f k s → get_elem? s.views id ≡ some v → gate w ≡ gate v → p' ≡ s.number → r' ≡ s.right → ((g : ℕ) → g < f.stages
       → pins' g ≡ s.pins g) → Onward s.name name'
       → ((n : ℕ) → n < f.names → NameIs f k n (name' n) (home' n) (counts n (set s.views id w)) ((tally k (set s.views id w)).lost_by n)
       (tally k (set s.views id w)).shuts) → Words f k After
   names_move ws at a number right pin on names = record {
-    number = number_same f k s.views id v w at s.number p' ws.number number a.numbers;
-    right = right ∙ (ws.right ∙ sym (total_same right_of s.views id v w at a.right));
+    number = number_same f k s.views id v w at s.number p' ws.number number (ap (λ (z : Gate). z.numbers) a);
+    right = right ∙ (ws.right ∙ sym (total_same right_of s.views id v w at (ap (λ (z : Gate). z.right) a)));
     one = let o = ws.one in omega arith;
-    shares = let c = total_same share_of s.views id v w at a.share in let d = ws.shares in omega arith;
+    shares = let c = total_same share_of s.views id v w at (ap (λ (z : Gate). z.share) a) in let d = ws.shares in omega arith;
     pins = λ g l. pins_same f k s.views id v w at s.number p' g (s.pins g) (pins' g) (ws.pins g l) (omega arith) (pin g l)
-        (live_same f k s.views id v w at g a) (ap (times g) a.strays) (ap (times g) a.closings);
+        (live_same f k s.views id v w at g a) (ap (λ (z : Gate). times g z.strays) a) (ap (λ (z : Gate). times g z.closings) a);
     names = names;
-    born = λ g l h n i q e. let c = total_same (publishings (g + 1)) s.views id v w at (ap (times (g + 1)) a.numbers) in ws.born g l (omega arith) n i q (on.born n e);
+    born = λ g l h n i q e. let c = total_same (publishings (g + 1)) s.views id v w at (ap (λ (z : Gate). times (g + 1) z.numbers) a) in ws.born g l (omega arith) n i q (on.born n e);
   }
 
   -- the names after a step that touches none
+  pub names_part : Words f k s → get_elem? s.views id ≡ some v → ((n : ℕ) → Part n v w) → ((n : ℕ) → name' n ≡ s.name n) → ((n : ℕ) → home' n ≡ s.home n)
+      → ((g : ℕ) → closings g v ≤ closings g w)
+      → (n : ℕ) → n < f.names → NameIs f k n (name' n) (home' n) (counts n (set s.views id w)) ((tally k (set s.views id w)).lost_by n)
+      (tally k (set s.views id w)).shuts
+  names_part ws at part name home up n l = name_else f k s.views id v w at n (s.name n) (name' n) (s.home n) (home' n)
+      (tally k s.views).shuts (tally k (set s.views id w)).shuts (ws.names n l) (part n) (name n) (home n)
+      (λ g. let t = total_grows (closings g) s.views id v w at (up g) in omega arith)
+
   pub names_calm : Words f k s → get_elem? s.views id ≡ some v → w.made.changes ≡ v.made.changes → w.inside ≡ v.inside → ((n : ℕ)
       → name' n ≡ s.name n) → ((n : ℕ) → home' n ≡ s.home n) → ((g : ℕ) → closings g v ≤ closings g w)
       → (n : ℕ) → n < f.names → NameIs f k n (name' n) (home' n) (counts n (set s.views id w)) ((tally k (set s.views id w)).lost_by n)
       (tally k (set s.views id w)).shuts
-  names_calm ws at c i name home up n l = name_else f k s.views id v w at n (s.name n) (name' n) (s.home n) (home' n)
-      (tally k s.views).shuts (tally k (set s.views id w)).shuts (ws.names n l) (part_same n v w c i) (name n) (home n)
-      (λ g. let t = total_grows (closings g) s.views id v w at (up g) in omega arith)
+  names_calm ws at c i name home up = names_part ws at (λ n. part_same n v w c i) name home up
 
   -- which generations were born
   pub born_calm : Words f k s → get_elem? s.views id ≡ some v → w.made.numbers ≡ v.made.numbers → Onward s.name name' → (g : ℕ) → g < f.stages
       → 0 < (tally k (set s.views id w)).heard (g + 1) → (n : ℕ) → n < f.names → Holds f g n → name' n ≢ 0
   born_calm ws at same on g l h n i q e = let c = total_same (publishings (g + 1)) s.views id v w at (ap (times (g + 1)) same) in ws.born g l (omega arith) n i q (on.born n e)
 
-  -- the rule after a step: the words, and the actor's own facts, are enough
-  pub stepped : Ruled f k s → get_elem? s.views id ≡ some v → Words f k After → s.number ≤ p'
+  -- what is known of the actor beside its Met and Seen
+  pub record Mine : Type 0 where
+    pub active : 0 < w.share
+    pub strays : StraysKnow w.share w.strays w.seen.shut
+    pub last : LastIs w.last w.seen.number w.own.numbers
+    pub right : RightIs p' w.build w.last w.own.begun
+    pub build : BuildIs name' w.build w.inside
+    pub pins : PinsKnow f w.hold w.work w.own
+    pub inside : InsideIs f name' w.inside w.hold w.work w.last w.build w.own
+
+  -- the rule after a step: the words, what its tale tells, and the actor's own facts, are enough
+  pub stepped : (t : Tale) → known w ≡ tell t (known v) → Ruled f k s → get_elem? s.views id ≡ some v → Words f k After → s.number ≤ p'
       → ((j : ℕ) (u : View) → j ≢ id → get_elem? s.views j ≡ some u → u.build.right ≡ 1 → (p' ≡ s.number) × Builds s.name name')
-      → Adds v w → Onward s.name name' → Ends f (tally k s.views) s.name name' → SitsIn f k After w → Ruled f k After
-  stepped r at words up others adds on ends mine = record {
-    words = words;
-    each = λ j u e. ⊎_elim (λ (t : (j ≡ id) × (w ≡ u)). subst (SitsIn f k After) t.1 mine)
-        (λ (t : (j ≢ id) × (get_elem? s.views j ≡ some u)). sits_on f k s.number p' s.name name' (tally k s.views)
-        (tally k (set s.views id w)) u (r.each j u t.1) up (λ h. (others j u t.0 t.1 h).0)
-        (grows f k s.views id v w at adds) on (λ h. (others j u t.0 t.1 h).1) ends)
-        (at_set s.views id j w u e);
-  }
+      → Adds v w → Onward s.name name' → Ends f (tally k s.views) s.name name'
+      → Says f k s.number p' s.name name' (tally k s.views) (tally k (set s.views id w)) t v.own → Mine → Ruled f k After
+  stepped t told r at words up others adds on ends says m = let a : Tally = tally k s.views in let a' : Tally = tally k (set s.views id w) in
+      let g = grows f k s.views id v w at adds in let old = r.each id v at in
+      let gone = ap (λ (z : Known). z.gone) told ∙ gone_left t (known v) in let b₀ = total_set begun_of s.views id v w at in let b₁ = ap all_begun gone in
+      let b₂ = ap (λ (z : Known). z.own.begun) told in
+      let q = subst (KnownIs f k s.number p' s.name name' a a') (sym told)
+      (told_is f k s.number p' s.name name' a a' t v old.seen old.own old.gone up g on (omega arith)
+      (λ h. let o₀ = total_set (opened_of h) s.views id v w at in let o₁ = ap (all_opened h) gone in let o₂ = ap (λ (z : Known). times h z.own.opened) told in
+      omega arith) says) in
+      record {
+        words = words;
+        each = λ j u e. ⊎_elim (λ (t : (j ≡ id) × (w ≡ u)). subst (SitsIn f k After) t.1 record {
+          spent = λ z. let c = m.active in absurd (omega arith);
+          strays = m.strays;
+          seen = q.0;
+          last = m.last;
+          right = m.right;
+          build = m.build;
+          pins = m.pins;
+          inside = m.inside;
+          own = q.1;
+          gone = q.2;
+        })
+            (λ (t : (j ≢ id) × (get_elem? s.views j ≡ some u)). sits_on f k s.number p' s.name name' a a' u (r.each j u t.1) up (λ h. (others j u t.0 t.1 h).0)
+            g on (λ h. (others j u t.0 t.1 h).1) ends)
+            (at_set s.views id j w u e);
+      }
+
+-- a step that leaves all words
+pub calm : (f : File) (k : Opening) (s : State) (id : ℕ) (v w : View) (t : Tale) → known w ≡ tell t (known v) → Ruled f k s → get_elem? s.views id ≡ some v
+    → gate w ≡ gate v → ((n : ℕ) → Part n v w)
+    → (Adds v w → Grows (tally k s.views) (tally k (set s.views id w))
+    → Says f k s.number s.number s.name s.name (tally k s.views) (tally k (set s.views id w)) t v.own)
+    → (Grows (tally k s.views) (tally k (set s.views id w)) → Mine f k s id v w s.number s.right s.pins s.name s.home)
+    → Ruled f k (record s { views = set s.views id w })
+calm f k s id v w t told r at g part says mine = let ws = r.words in
+    let add : Adds v w = adds_by t v w told (λ n. let e = ap (λ (z : Counts). z.puts + z.restores + z.in_birth + z.in_retake) (part n).counts in omega arith)
+    (λ n. let e = ap (λ (z : Counts). z.loses + z.drops + z.in_lose + z.in_drop) (part n).counts in omega arith) in
+    let up = grows f k s.views id v w at add in
+    stepped f k s id v w s.number s.right s.pins s.name s.home t told r at
+    (names_move f k s id v w s.number s.right s.pins s.name s.home ws at g refl refl (λ g l. refl) (onward_same s.name)
+    (names_part f k s id v w s.number s.right s.pins s.name s.home ws at part (λ n. refl) (λ n. refl) (λ h. let e = ap (λ (z : Gate). times h z.closings) g in omega arith)))
+    (omega arith) (λ j u ne e h. (refl, builds_same s.name)) add (onward_same s.name) (ends_same f (tally k s.views) s.name) (says add up) (mine up)
+
+-- a step that leaves the number and all names
+pub gated : (f : File) (k : Opening) (s : State) (id : ℕ) (v w : View) (p' r' : ℕ) (pins' name' : ℕ → ℕ) (home' : ℕ → Home) (t : Tale)
+    → known w ≡ tell t (known v) → Ruled f k s → get_elem? s.views id ≡ some v → p' ≡ s.number → ((n : ℕ) → name' n ≡ s.name n) → ((n : ℕ) → home' n ≡ s.home n)
+    → w.made.changes ≡ v.made.changes → w.made.numbers ≡ v.made.numbers → w.inside ≡ v.inside → w.share ≡ v.share
+    → (Grows (tally k s.views) (tally k (set s.views id w)) → (r' ≡ total right_of (set s.views id w)) × (r' ≤ 1) × ((g : ℕ) → g < f.stages
+    → PinsAre p' g (pins' g) ((tally k (set s.views id w)).shuts g) (total (live g) (set s.views id w)) (total (pins g) (set s.views id w)))
+    × Says f k s.number p' s.name name' (tally k s.views) (tally k (set s.views id w)) t v.own)
+    → (Sits f k p' name' (tally k (set s.views id w)) v → Mine f k s id v w p' r' pins' name' home')
+    → Ruled f k (After f k s id v w p' r' pins' name' home')
+gated f k s id v w p' r' pins' name' home' t told r at ep ename ehome changes numbers inside share gate mine = let ws = r.words in
+    let add = adds_calm t v w told inside in let up = grows f k s.views id v w at add in let q = gate up in
+    let on = onward_eq s.name name' ename in let builds = builds_eq s.name name' ename in let ends = ends_eq f (tally k s.views) s.name name' ename in
+    stepped f k s id v w p' r' pins' name' home' t told r at record {
+      number = number_same f k s.views id v w at s.number p' ws.number ep numbers;
+      right = q.0;
+      one = q.1;
+      shares = let c = total_same share_of s.views id v w at share in let d = ws.shares in omega arith;
+      pins = q.2;
+      names = names_calm f k s id v w p' r' pins' name' home' ws at changes inside ename ehome add.closings;
+      born = born_calm f k s id v w p' r' pins' name' home' ws at numbers on;
+    }
+    (omega arith) (λ j u ne e h. (ep, builds)) add on ends q.3
+    (mine (sits_on f k s.number p' s.name name' (tally k s.views) (tally k (set s.views id w)) v (r.each id v at) (omega arith) (λ _. ep) up on (λ _. builds) ends))

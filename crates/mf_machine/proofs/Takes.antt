@@ -1,25 +1,25 @@
 -- take and give
-use Rattle.std.proofs.Common.{◌≡◌, ◌≢◌, ℕ, ◌+◌, ◌<◌, List, set, sym, refl, ap, ◌∙◌, subst, inl, arith}
+use Rattle.std.proofs.Common.{◌≡◌, ◌≢◌, ℕ, ◌+◌, ◌<◌, set, refl, ap, subst, inl, arith}
 use mathlib.Core.Option.{some}
 use lib.ListN.{get_elem?}
 use Rattle.mf_machine.specs.declared.view.View.{View}
 use Rattle.mf_machine.specs.Actors.{Active, Free, PinHolds}
+use Rattle.mf_machine.specs.Answers as answer
 use Rattle.mf_machine.specs.Counts.{bit}
 use Rattle.mf_machine.specs.File.{File, Opening, State, Home, HasCell}
+use Rattle.mf_machine.specs.File.Home.{away}
 use Rattle.mf_machine.specs.Rest.{Rest}
 use Rattle.mf_machine.specs.Ruled.{Ruled}
-use Rattle.mf_machine.specs.Sums.{puts, loses, restores, drops, in_get, in_birth, in_retake, in_lose, in_drop, tally}
-use Rattle.mf_machine.specs.Sums.{counts}
-use Rattle.mf_machine.specs.Worlds.{steps, noted, counted}
-use Rattle.mf_machine.specs.File.Home.{away}
 use Rattle.mf_machine.specs.Steps as row
-use Rattle.mf_machine.proofs.Lists.{bit_is, bit_not, bit_eq, times_cons}
-use Rattle.mf_machine.proofs.Totals.{total_set, total_at}
-use Rattle.mf_machine.proofs.Frames.{Onward, Builds, Ends, sits_on}
-use Rattle.mf_machine.proofs.Steps.{Adds, ButName, After, grows, names_move, stepped}
+use Rattle.mf_machine.specs.Sums.{in_get, tally, counts}
+use Rattle.mf_machine.specs.Worlds.{counted, noted, steps}
+use Rattle.mf_machine.proofs.Entering.{silence, reply}
+use Rattle.mf_machine.proofs.Lists.{bit_is, bit_not, bit_eq}
+use Rattle.mf_machine.proofs.Totals.{total_at}
 use Rattle.mf_machine.proofs.Sees.{here_cause}
+use Rattle.mf_machine.proofs.Steps.{ButName, After, parts, adds_by}
 use Rattle.mf_machine.proofs.Words as word
-use Rattle.mf_machine.proofs.Words.{onward_at, builds_at, ends_at, turn_else, back_else, names_at, bits_low, bits_lost, lost_is, raises_parts, sinks_parts, hides_parts}
+use Rattle.mf_machine.proofs.Words.{outside_of, turn_else, back_else, renamed, more_born}
 
 module _ (f : File) (k : Opening) (s : State) (id : ℕ) (v : View) (rest : Rest f k) (r : Ruled f k s) (at : get_elem? s.views id ≡ some v)
     (active : Active v) (p' r' : ℕ) (pins' name' : ℕ → ℕ) (home' : ℕ → Home) where
@@ -27,183 +27,66 @@ module _ (f : File) (k : Opening) (s : State) (id : ℕ) (v : View) (rest : Rest
   pub takes : (n i y : ℕ) → Free v → n < f.names → PinHolds f v.hold v.work n → s.name n ≡ 1 → ButName f s n p' r' pins' name' home' → name' n ≡ 2
       → home' n ≡ away
       → Ruled f k (After f k s id v (counted i y (row.took n v)) p' r' pins' name' home')
-  takes n i y free inside pin here but now out = let ep = but.number in let er = but.right in let epins = but.pins in let ename = but.names in
-      let ehome = but.homes in
-      let w : View = counted i y (row.took n v) in let vs' : List View = set s.views id w in let mine = r.each id v at in let ws = r.words in
-      let z₁ : v.inside.getting ≡ 0 = omega arith in let z₂ : v.inside.bearing ≡ 0 = omega arith in
-      let z₃ : v.inside.retaking ≡ 0 = omega arith in let z₄ : v.inside.losing ≡ 0 = omega arith in
-      let z₅ : v.inside.dropping ≡ 0 = omega arith in let z₆ : v.inside.trying ≡ 0 = omega arith in let one = bit_is (n + 1) (n + 1) refl in
-      let none : bit 0 (n + 1) ≡ 0 = bit_not 0 (n + 1) (λ e. omega arith) in let o₁ = bit_not v.inside.getting (n + 1) (λ e. omega arith) in
-      let o₂ = bit_not v.inside.bearing (n + 1) (λ e. omega arith) in let o₃ = bit_not v.inside.retaking (n + 1) (λ e. omega arith) in
-      let o₄ = bit_not v.inside.losing (n + 1) (λ e. omega arith) in let o₅ = bit_not v.inside.dropping (n + 1) (λ e. omega arith) in
+  takes n i y free inside pin here but now out = let w : View = counted i y (row.took n v) in let ws = r.words in let o = outside_of n v free in
+      let z : v.inside.getting ≡ 0 = omega arith in let one = bit_is (n + 1) (n + 1) refl in let o₀ = o.0 in
       let alive : name' n ≢ 0 = λ z. omega arith in let cause = here_cause f k s n rest ws inside (inl here) in
-      let add : Adds v w = record {
-        numbers = λ n. omega arith;
-        closings = λ g. omega arith;
-        lost_by = λ n l. omega arith;
-        raises = λ n. omega arith;
-        sinks = λ n. omega arith;
-        hides = λ n. omega arith;
-        begun = omega arith;
-        opened = λ g. omega arith;
-      } in
-      let g' = grows f k s.views id v w at add in
-      let on : Onward s.name name' = onward_at s.name name' n ename (λ z. absurd (omega arith)) (λ z. absurd (omega arith)) in
-      let builds : Builds s.name name' = builds_at s.name name' n ename (λ z. absurd (omega arith)) (λ z. absurd (omega arith)) in
-      let ends : Ends f (tally k s.views) s.name name' = ends_at s.name name' n ename f (tally k s.views) (λ _ z. absurd (omega arith)) in
-      let old = sits_on f k s.number p' s.name name' (tally k s.views) (tally k vs') v mine (omega arith) (λ _. ep) g' on (λ _. builds) ends in
-      let t0 = total_set (in_get n) s.views id v w at in let t1 = total_set (in_birth n) s.views id v w at in
-      let t2 = total_set (in_retake n) s.views id v w at in let t3 = total_set (in_lose n) s.views id v w at in
-      let t4 = total_set (in_drop n) s.views id v w at in let t5 = total_set (puts n) s.views id v w at in
-      let t6 = total_set (loses n) s.views id v w at in let t7 = total_set (restores n) s.views id v w at in
-      let t8 = total_set (drops n) s.views id v w at in
-      stepped f k s id v w p' r' pins' name' home' r at
-      (names_move f k s id v w p' r' pins' name' home' ws at record {
-        right = refl;
-        share = refl;
-        strays = refl;
-        hold = refl;
-        work = refl;
-        numbers = refl;
-        closings = refl;
-      } ep er epins on (names_at f k s id v w name' home' n ws at (λ g. omega arith) ename ehome (λ m ne.
-      record {
-        in_get = turn_else m n v.inside.getting ne z₁;
-        in_birth = refl;
-        in_retake = refl;
-        in_lose = refl;
-        in_drop = refl;
-        puts = refl;
-        loses = refl;
-        restores = refl;
-        drops = refl;
-        lost_by = λ l. refl;
-      }) (word.hidden_away f k n (s.name n) (name' n) (s.home n) (home' n)
-      (counts n s.views) (counts n vs') ((tally k s.views).lost_by n) ((tally k vs').lost_by n)
-      (tally k s.views).shuts (tally k vs').shuts (ws.names n inside) here now out (omega arith) (omega arith) (omega arith) (omega arith)
-      (omega arith))))
-      (omega arith) (λ j u ne e h. (ep, builds)) add on ends
-      record {
-        spent = λ z. absurd (omega arith);
+      renamed f k s id v w p' r' pins' name' home' n (reply (answer.here n)) refl r at refl but (omega arith, omega arith) alive
+      (λ m ne. record { counts = ap (λ z. record (parts m v) { in_get = z }) (turn_else m n v.inside.getting ne z); lost_by = λ l. refl })
+      (adds_by (reply (answer.here n)) v w refl (λ m. omega arith) (λ m. omega arith))
+      (λ mv up. let m₀ = mv.in_get in let m₁ = mv.in_birth in let m₂ = mv.in_retake in let m₃ = mv.in_lose in let m₄ = mv.in_drop in
+      let m₅ = mv.puts in let m₆ = mv.loses in let m₇ = mv.restores in let m₈ = mv.drops in
+      word.hidden_away f k n (s.name n) (name' n) (s.home n) (home' n)
+      (counts n s.views) (counts n (set s.views id w)) ((tally k s.views).lost_by n) ((tally k (set s.views id w)).lost_by n)
+      (tally k s.views).shuts (tally k (set s.views id w)).shuts (ws.names n inside) here now out (omega arith) (omega arith) (omega arith) (omega arith)
+      (omega arith))
+      (λ up. (let b = up.raised n in omega arith, alive))
+      (λ old. record {
+        active = active;
         strays = old.strays;
-        seen = record {
-          low = old.seen.low;
-          heard = old.seen.heard;
-          shut = old.seen.shut;
-          born = λ m l. times_cons m n v.seen.born (name' m ≢ 0) (λ e z. alive (sym (ap name' e) ∙ z))
-              (λ q. old.seen.born m q) l;
-          dropped = old.seen.dropped;
-        };
         last = old.last;
-        right = record {
-          bit = old.right.bit;
-          current = old.right.current;
-          has = old.right.has;
-        };
-        build = record {
-          unborn = old.build.unborn;
-          lost = old.build.lost;
-          settled = λ m l. times_cons m n v.build.settled (name' m ≢ 0) (λ e z. alive (sym (ap name' e) ∙ z)) (λ q. old.build.settled m q) l;
-        };
+        right = record { bit = old.right.bit; current = old.right.current; has = old.right.has };
+        build = record { unborn = old.build.unborn; lost = old.build.lost; settled = more_born name' n v.build.settled alive old.build.settled };
         pins = old.pins;
         inside = record {
-          getting = λ m e. let same : n ≡ m = omega arith in subst
-              (λ z. (z < f.names) × PinHolds f v.hold v.work z) same (inside, pin);
+          getting = λ m e. let same : n ≡ m = omega arith in subst (λ z. (z < f.names) × PinHolds f v.hold v.work z) same (inside, pin);
           bearing = λ m e. absurd (omega arith);
           retaking = λ m e. absurd (omega arith);
           losing = λ m e. absurd (omega arith);
           dropping = λ m e. absurd (omega arith);
           trying = λ m e. absurd (omega arith);
         };
-        own = record {
-          numbers = old.own.numbers;
-          refused = old.own.refused;
-          missed = old.own.missed;
-          closed = old.own.closed;
-          already = old.own.already;
-          pinned = old.own.pinned;
-          unborn = old.own.unborn;
-          here = λ m l. times_cons m n v.own.here (0 < (tally k vs').raised m) (λ e. subst (λ z. 0 < (tally k vs').raised z) (sym e)
-              (let b = g'.raised n in omega arith)) (λ q. old.own.here m q) l;
-          lost = old.own.lost;
-          not_lost = old.own.not_lost;
-          not_dropped = old.own.not_dropped;
-        };
-        gone = old.gone;
-      }
+      })
 
   -- give
   pub gives : (n i y : ℕ) → v.inside.getting ≡ n + 1 → ButName f s n p' r' pins' name' home' → name' n ≡ 1 → HasCell f n (home' n)
       → Ruled f k (After f k s id v (noted steps i y (row.gave v)) p' r' pins' name' home')
-  gives n i y has_it but now full = let ep = but.number in let er = but.right in let epins = but.pins in let ename = but.names in let ehome = but.homes in
-      let w : View = noted steps i y (row.gave v) in let vs' : List View = set s.views id w in let mine = r.each id v at in let ws = r.words in
+  gives n i y has_it but now full = let w : View = noted steps i y (row.gave v) in let ws = r.words in let mine = r.each id v at in
       let inside = (mine.inside.getting n has_it).0 in let one = bit_is v.inside.getting (n + 1) has_it in
       let none : bit 0 (n + 1) ≡ 0 = bit_not 0 (n + 1) (λ e. omega arith) in let there = total_at (in_get n) s.views id v at in
       let taken : s.name n ≡ 2 = (let t = (ws.names n inside).taken in bit_eq (s.name n) 2 (omega arith)) in
-      let add : Adds v w = record {
-        numbers = λ n. omega arith;
-        closings = λ g. omega arith;
-        lost_by = λ n l. omega arith;
-        raises = λ n. omega arith;
-        sinks = λ n. omega arith;
-        hides = λ n. omega arith;
-        begun = omega arith;
-        opened = λ g. omega arith;
-      } in
-      let g' = grows f k s.views id v w at add in
-      let on : Onward s.name name' = onward_at s.name name' n ename (λ z. absurd (omega arith)) (λ z. absurd (omega arith)) in
-      let builds : Builds s.name name' = builds_at s.name name' n ename (λ z. absurd (omega arith)) (λ z. absurd (omega arith)) in
-      let ends : Ends f (tally k s.views) s.name name' = ends_at s.name name' n ename f (tally k s.views) (λ _ z. absurd (omega arith)) in
-      let old = sits_on f k s.number p' s.name name' (tally k s.views) (tally k vs') v mine (omega arith) (λ _. ep) g' on (λ _. builds) ends in
-      let t0 = total_set (in_get n) s.views id v w at in let t1 = total_set (in_birth n) s.views id v w at in
-      let t2 = total_set (in_retake n) s.views id v w at in let t3 = total_set (in_lose n) s.views id v w at in
-      let t4 = total_set (in_drop n) s.views id v w at in let t5 = total_set (puts n) s.views id v w at in
-      let t6 = total_set (loses n) s.views id v w at in let t7 = total_set (restores n) s.views id v w at in
-      let t8 = total_set (drops n) s.views id v w at in
-      stepped f k s id v w p' r' pins' name' home' r at
-      (names_move f k s id v w p' r' pins' name' home' ws at record {
-        right = refl;
-        share = refl;
-        strays = refl;
-        hold = refl;
-        work = refl;
-        numbers = refl;
-        closings = refl;
-      } ep er epins on (names_at f k s id v w name' home' n ws at (λ g. omega arith) ename ehome (λ m ne.
-      record {
-        in_get = back_else m n v.inside.getting ne has_it;
-        in_birth = refl;
-        in_retake = refl;
-        in_lose = refl;
-        in_drop = refl;
-        puts = refl;
-        loses = refl;
-        restores = refl;
-        drops = refl;
-        lost_by = λ l. refl;
-      }) (word.shown_here f k n (s.name n) (name' n) (s.home n)
-      (home' n) (counts n s.views) (counts n vs') ((tally k s.views).lost_by n) ((tally k vs').lost_by n)
-      (tally k s.views).shuts (tally k vs').shuts (ws.names n inside) taken now full (omega arith) (omega arith) (omega arith)
-      (omega arith) (omega arith))))
-      (omega arith) (λ j u ne e h. (ep, builds)) add on ends
-      record {
-        spent = λ z. absurd (omega arith);
+      renamed f k s id v w p' r' pins' name' home' n silence refl r at refl but (omega arith, omega arith) (λ z. omega arith)
+      (λ m ne. record { counts = ap (λ z. record (parts m v) { in_get = z }) (back_else m n v.inside.getting ne has_it); lost_by = λ l. refl })
+      (adds_by silence v w refl (λ m. omega arith) (λ m. omega arith))
+      (λ mv up. let m₀ = mv.in_get in let m₁ = mv.in_birth in let m₂ = mv.in_retake in let m₃ = mv.in_lose in let m₄ = mv.in_drop in
+      let m₅ = mv.puts in let m₆ = mv.loses in let m₇ = mv.restores in let m₈ = mv.drops in
+      word.shown_here f k n (s.name n) (name' n) (s.home n) (home' n)
+      (counts n s.views) (counts n (set s.views id w)) ((tally k s.views).lost_by n) ((tally k (set s.views id w)).lost_by n)
+      (tally k s.views).shuts (tally k (set s.views id w)).shuts (ws.names n inside) taken now full (omega arith) (omega arith) (omega arith)
+      (omega arith) (omega arith))
+      (λ up. tt)
+      (λ old. record {
+        active = active;
         strays = old.strays;
-        seen = old.seen;
         last = old.last;
         right = old.right;
-        build =
-            record { unborn = old.build.unborn; lost = old.build.lost; settled = old.build.settled };
+        build = record { unborn = old.build.unborn; lost = old.build.lost; settled = old.build.settled };
         pins = old.pins;
-        inside =
-            record {
-              getting = λ m e. absurd (omega arith);
-              bearing = old.inside.bearing;
-              retaking = old.inside.retaking;
-              losing = old.inside.losing;
-              dropping = old.inside.dropping;
-              trying = old.inside.trying;
-            };
-        own = old.own;
-        gone = old.gone;
-      }
+        inside = record {
+          getting = λ m e. absurd (omega arith);
+          bearing = old.inside.bearing;
+          retaking = old.inside.retaking;
+          losing = old.inside.losing;
+          dropping = old.inside.dropping;
+          trying = old.inside.trying;
+        };
+      })

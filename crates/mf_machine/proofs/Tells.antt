@@ -6,6 +6,7 @@ use native.Mathlib.Decide.{ℕ_discrete, dec_le}
 use lib.ListN.{get_elem?}
 use Rattle.mf_machine.specs.declared.view.View.{View}
 use Rattle.mf_machine.specs.Actors.{PinHolds, NextHolds}
+use Rattle.mf_machine.specs.Answers.{number}
 use Rattle.mf_machine.specs.Counts.{times, total}
 use Rattle.mf_machine.specs.File.{File, Opening, State, IsLoseLine, HasCell}
 use Rattle.mf_machine.specs.Ruled.{Ruled}
@@ -47,7 +48,7 @@ module _ (f : File) (k : Opening) (s : State) (r : Ruled f k s) where
 
   -- a pinned generation's names are born, and they and those of the next one aren't Dropped
   pub pinned_born : (id n : ℕ) (v : View) → get_elem? s.views id ≡ some v → n < f.names → PinHolds f v.hold v.work n → s.name n ≢ 0
-  pinned_born id n v at inside pin = let t = (r.each id v at).pins pin.0 pin.2 in r.words.born pin.0 pin.1 ((r.each id v at).own.numbers (pin.0 + 1) t.1) n inside pin.3
+  pinned_born id n v at inside pin = let t = (r.each id v at).pins pin.0 pin.2 in r.words.born pin.0 pin.1 ((r.each id v at).own (number (pin.0 + 1)) t.1) n inside pin.3
 
   pub seen_there : (id n : ℕ) (v : View) → get_elem? s.views id ≡ some v → n < f.names → PinHolds f v.hold v.work n ⊎ NextHolds f v.build v.last n
       → s.name n ≢ 3

@@ -5,7 +5,7 @@ use lib.ListN.{get_elem?}
 use Rattle.mf_machine.specs.declared.view.Met.{Met}
 use Rattle.mf_machine.specs.declared.view.Seen.{Seen}
 use Rattle.mf_machine.specs.declared.view.View.{View}
-use Rattle.mf_machine.specs.Answers.{Answer, begun, closed, number, often, makes}
+use Rattle.mf_machine.specs.Answers.{Answer, closed, number, often, makes}
 use Rattle.mf_machine.specs.File.{File, Opening}
 use Rattle.mf_machine.specs.Kept.{Number}
 use Rattle.mf_machine.specs.Laws.{met_sum, SeenHas, MadeIs, MadeAlone, AnswersTell}
@@ -14,7 +14,7 @@ use Rattle.mf_machine.specs.Moves as move
 use Rattle.mf_machine.specs.Rest.{Rest}
 use Rattle.mf_machine.specs.Ruled.{Ruled}
 use Rattle.mf_machine.specs.Steps as row
-use Rattle.mf_machine.specs.Worlds.{World, read, actor, Fits, fresh, first_view, first_seen, nothing_made, nothing_met}
+use Rattle.mf_machine.specs.Worlds.{World, read, actor, Fits, fresh, first_view, first_seen, nothing_made}
 use Rattle.mf_machine.proofs.Adding.{met_sum-append}
 use Rattle.mf_machine.proofs.Deeds.{own, mine, here, from_at, tells, tale, rises}
 use Rattle.mf_machine.proofs.Entering.{known, Tells, has_on, tells_on}
@@ -22,13 +22,10 @@ use Rattle.mf_machine.proofs.Goes.{mine_in, theirs_in, both_made}
 use Rattle.mf_machine.proofs.Laws.{one}
 use Rattle.mf_machine.proofs.Lists.{at_append, times-append}
 use Rattle.mf_machine.proofs.Openings.{opens}
+use Rattle.mf_machine.proofs.Seats.{nothing_often}
 use Rattle.mf_machine.proofs.Rules as rules
 
 -- an actor that has met nothing
-nothing_often : (a : Answer) → often a nothing_met ≡ 0
-nothing_often begun = refl
-nothing_often a = refl
-
 nothing_makes : (a : Answer) → makes a nothing_made ≡ 0
 nothing_makes (closed g) = refl
 nothing_makes a = refl

@@ -7,17 +7,18 @@ use native.Mathlib.Decide.{ℕ_discrete, dec_le}
 use lib.ListN.{get_elem?}
 use Rattle.mf_machine.specs.declared.view.Loss.{Loss}
 use Rattle.mf_machine.specs.declared.view.View.{View}
-use Rattle.mf_machine.specs.Actors.{has}
-use Rattle.mf_machine.specs.Counts.{bit, truth, total, lines}
+use Rattle.mf_machine.specs.Actors.{Free, has}
+use Rattle.mf_machine.specs.Counts.{bit, truth, times, total, lines}
 use Rattle.mf_machine.specs.File.{File, Opening, State, Holds, IsLoseLine, Home, HasCell, Unharmed}
-use Rattle.mf_machine.specs.Ruled.{NameIs, Words}
-use Rattle.mf_machine.specs.Sums.{puts, loses, restores, drops, in_birth, in_retake, in_lose, in_drop, raises, sinks}
+use Rattle.mf_machine.specs.Ruled.{NameIs, Words, Sits, Ruled}
+use Rattle.mf_machine.specs.Sums.{puts, loses, restores, drops, in_birth, in_get, in_retake, in_lose, in_drop, raises, sinks}
 use Rattle.mf_machine.specs.Sums.{hides, lost_bit, Tally, tally, Counts, counts, closings}
 use Rattle.mf_machine.specs.File.Home.{away, empty, keeps}
-use Rattle.mf_machine.proofs.Lists.{bit_not}
+use Rattle.mf_machine.proofs.Lists.{bit_not, times_cons}
 use Rattle.mf_machine.proofs.Totals.{total_grows}
-use Rattle.mf_machine.proofs.Frames.{Onward, Builds, Ends}
-use Rattle.mf_machine.proofs.Steps.{Part, name_else}
+use Rattle.mf_machine.proofs.Entering.{Tale, known, tell}
+use Rattle.mf_machine.proofs.Frames.{Grows, Onward, Builds, Ends, Says, sits_on}
+use Rattle.mf_machine.proofs.Steps.{Adds, After, ButName, Gate, gate, Mine, Moved, moved, Part, parts, grows, name_else, names_move, stepped}
 
 -- the bits of a word
 pub lost_is : (w : ℕ) → 4 ≤ w → lost_bit w ≡ 1
@@ -216,6 +217,57 @@ names_at f k s id v w name' home' n ws at up names homes parts here m l = dite (
     (λ ne. name_else f k s.views id v w at m (s.name m) (name' m) (s.home m) (home' m)
     (tally k s.views).shuts (tally k (set s.views id w)).shuts (ws.names m l) (parts m ne) (names m ne) (homes m ne)
     (λ g. let t = total_grows (closings g) s.views id v w at (up g) in omega arith))
+
+-- a step on the name n
+pub named : (f : File) (k : Opening) (s : State) (id : ℕ) (v w : View) (p' r' : ℕ) (pins' name' : ℕ → ℕ) (home' : ℕ → Home) (n : ℕ) (t : Tale)
+    → known w ≡ tell t (known v) → Ruled f k s → get_elem? s.views id ≡ some v → gate w ≡ gate v → ButName f s n p' r' pins' name' home'
+    → ((m : ℕ) → m ≢ n → Part m v w) → Adds v w
+    → (Moved (counts n s.views) (counts n (set s.views id w)) (parts n v) (parts n w) → Grows (tally k s.views) (tally k (set s.views id w))
+    → NameIs f k n (name' n) (home' n) (counts n (set s.views id w)) ((tally k (set s.views id w)).lost_by n) (tally k (set s.views id w)).shuts)
+    → ((j : ℕ) (u : View) → j ≢ id → get_elem? s.views j ≡ some u → u.build.right ≡ 1 → Builds s.name name')
+    → Onward s.name name' → Ends f (tally k s.views) s.name name'
+    → (Grows (tally k s.views) (tally k (set s.views id w))
+    → Says f k s.number p' s.name name' (tally k s.views) (tally k (set s.views id w)) t v.own)
+    → Mine f k s id v w p' r' pins' name' home' → Ruled f k (After f k s id v w p' r' pins' name' home')
+named f k s id v w p' r' pins' name' home' n t told r at g but part add name builds on ends says mine = let ep = but.number in
+    let up = grows f k s.views id v w at add in
+    stepped f k s id v w p' r' pins' name' home' t told r at
+    (names_move f k s id v w p' r' pins' name' home' r.words at g but.number but.right but.pins on
+    (names_at f k s id v w name' home' n r.words at (λ h. let e = ap (λ (z : Gate). times h z.closings) g in omega arith) but.names but.homes part
+    (name (moved n s.views id v w at) up)))
+    (omega arith) (λ j u ne e h. (ep, builds j u ne e h)) add on ends (says up) mine
+
+-- a step on a name that is Here or Taken, and that isn't Unborn then
+pub renamed : (f : File) (k : Opening) (s : State) (id : ℕ) (v w : View) (p' r' : ℕ) (pins' name' : ℕ → ℕ) (home' : ℕ → Home) (n : ℕ) (t : Tale)
+    → known w ≡ tell t (known v) → Ruled f k s → get_elem? s.views id ≡ some v → gate w ≡ gate v → ButName f s n p' r' pins' name' home'
+    → (0 < s.name n) × (s.name n < 3) → name' n ≢ 0 → ((m : ℕ) → m ≢ n → Part m v w) → Adds v w
+    → (Moved (counts n s.views) (counts n (set s.views id w)) (parts n v) (parts n w) → Grows (tally k s.views) (tally k (set s.views id w))
+    → NameIs f k n (name' n) (home' n) (counts n (set s.views id w)) ((tally k (set s.views id w)).lost_by n) (tally k (set s.views id w)).shuts)
+    → (Grows (tally k s.views) (tally k (set s.views id w))
+    → Says f k s.number p' s.name name' (tally k s.views) (tally k (set s.views id w)) t v.own)
+    → (Sits f k p' name' (tally k (set s.views id w)) v → Mine f k s id v w p' r' pins' name' home')
+    → Ruled f k (After f k s id v w p' r' pins' name' home')
+renamed f k s id v w p' r' pins' name' home' n t told r at g but was alive part add name says mine = let ep = but.number in let low = was.0 in let high = was.1 in
+    let on : Onward s.name name' = onward_at s.name name' n but.names (λ z. absurd (alive z)) (λ z. absurd (omega arith)) in
+    let builds : Builds s.name name' = builds_at s.name name' n but.names (λ z. absurd (omega arith)) (λ z. absurd (omega arith)) in
+    let ends : Ends f (tally k s.views) s.name name' = ends_at s.name name' n but.names f (tally k s.views) (λ _ z. absurd (omega arith)) in
+    named f k s id v w p' r' pins' name' home' n t told r at g but part add name (λ j u ne e h. builds) on ends says
+    (mine (sits_on f k s.number p' s.name name' (tally k s.views) (tally k (set s.views id w)) v (r.each id v at) (omega arith) (λ _. ep)
+    (grows f k s.views id v w at add) on (λ _. builds) ends))
+
+-- an actor that has no name Taken has none of these
+pub outside_of : (n : ℕ) (v : View) → Free v → (in_get n v ≡ 0) × (in_birth n v ≡ 0) × (in_retake n v ≡ 0) × (in_lose n v ≡ 0) × (in_drop n v ≡ 0)
+outside_of n v free = (
+  bit_not v.inside.getting (n + 1) (λ e. omega arith),
+  bit_not v.inside.bearing (n + 1) (λ e. omega arith),
+  bit_not v.inside.retaking (n + 1) (λ e. omega arith),
+  bit_not v.inside.losing (n + 1) (λ e. omega arith),
+  bit_not v.inside.dropping (n + 1) (λ e. omega arith),
+)
+
+-- a list of what isn't Unborn, with one more
+pub more_born : (name' : ℕ → ℕ) (n : ℕ) (xs : List ℕ) → name' n ≢ 0 → ((m : ℕ) → 0 < times m xs → name' m ≢ 0) → (m : ℕ) → 0 < times m (n ∷ xs) → name' m ≢ 0
+more_born name' n xs alive old m l = times_cons m n xs (name' m ≢ 0) (λ e z. alive (sym (ap name' e) ∙ z)) (old m) l
 
 -- what stands where it was set
 pub set_in : (vs : List View) (i : ℕ) (v w : View) → get_elem? vs i ≡ some v → get_elem? (set vs i w) i ≡ some w

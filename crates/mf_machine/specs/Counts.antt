@@ -1,7 +1,6 @@
 -- How often something stands in a list, and sums over all actors.
 use Rattle.std.specs.Prelude.{ℕ, zero, suc, ◌+◌, ◌==◌, nat_lt, Bool, List, [], ◌∷◌, cond}
 use Rattle.mf_machine.specs.declared.view.Loss.{Loss}
-use Rattle.mf_machine.specs.declared.view.Refusal.{Refusal}
 use Rattle.mf_machine.specs.declared.view.Met.{Met}
 use Rattle.mf_machine.specs.declared.view.View.{View}
 
@@ -27,11 +26,6 @@ losses n (x ∷ xs) = bit x.name n + losses n xs
 abbrev pub lines : ℕ → ℕ → List Loss → ℕ
 lines n l [] = 0
 lines n l (x ∷ xs) = cond (x.name == n) (bit x.line l) 0 + lines n l xs
-
--- how often a close of g met more pins than its actor had
-abbrev pub foreign : ℕ → List Refusal → ℕ
-foreign g [] = 0
-foreign g (x ∷ xs) = cond (x.generation == g) (truth (nat_lt x.own x.pins)) 0 + foreign g xs
 
 -- the begins answered true in all these
 abbrev pub all_begun : List Met → ℕ

@@ -8,12 +8,12 @@ use Rattle.mf_machine.specs.declared.answer.State.TheVariants as told
 use Rattle.mf_machine.specs.declared.view.Met.{Met}
 use Rattle.mf_machine.specs.declared.view.View.{View}
 use Rattle.mf_machine.specs.Actors.{live, IsFreeSlot, IsPinnedOn, NextHolds}
-use Rattle.mf_machine.specs.File.{File, Opening, State, name_word, removed}
+use Rattle.mf_machine.specs.File.{File, Home, Opening, State, name_word, removed}
 use Rattle.mf_machine.specs.Kept.{IsInside, Number, Pins, Born, Seen, Builder, Dropped, Losses}
 use Rattle.mf_machine.specs.Kept.{Cells, Accounted, Caused}
 use Rattle.mf_machine.specs.Laws.{IsLast}
-use Rattle.mf_machine.specs.Moves.{Move, Deed, look, pin, unpin, close, begin, end, publish, see, take, give, born}
-use Rattle.mf_machine.specs.Moves.{lose, lost, retake, restored, drop, drop_again, dropped, split, join}
+use Rattle.mf_machine.specs.Moves.{Move, Deed, look, pin, unpin, close, begin, end, publish, see, take, give, birth, born}
+use Rattle.mf_machine.specs.Moves.{lose, lost, retake, restored, drop, drop_again, dropped, exchange, split, join}
 use Rattle.mf_machine.specs.Moves.{Runs, run}
 use Rattle.mf_machine.specs.Rest.{Rest}
 use Rattle.mf_machine.specs.Steps.{pin_answer, close_answer, begin_answer, see_answer, take_answer, chunk, gone, again}
@@ -51,6 +51,7 @@ pub record Full (m : Met) : Type 0 where
 pub record Exhibits (f : File) (w : World) (ms : List Move) : Type 0 where
   -- both slots of an actor pinned at once, and a pin on a closed generation
   pub slots : Occurs (λ s id d. (g h : ℕ) × IsPinnedOn g Hold (actor s id) × IsPinnedOn h Work (actor s id)) f w ms
+  pub pin_true : Answered (pin Hold) pins_word pin_answer true f w ms
   pub pin_false : Answered (pin Work) pins_word pin_answer false f w ms
   pub unpinned : Done (unpin Hold) f w ms × Done (unpin Work) f w ms
   -- a close of a generation without pins, one that met another's pins, and one of a closed generation
@@ -73,6 +74,7 @@ pub record Exhibits (f : File) (w : World) (ms : List Move) : Type 0 where
   pub take_lost : Occurs (λ s id d. (n l : ℕ) × (d ≡ take n) × (take_answer (word_of s (name_word f n)) ≡ gone l)) f w ms
   pub take_again : Answered take (name_word f) take_answer again f w ms
   pub gives : Done give f w ms
+  pub births : Done birth f w ms
   -- a birth, while another actor makes a step; and a retake by the Work pin alone, and one by the next generation alone
   pub in_birth : Occurs (λ s id d. (n j : ℕ) × (d ≡ look) × (j ≢ id) × ((actor s j).inside.bearing ≡ filled n)) f w ms
   pub by_work : Occurs (λ s id d. (n : ℕ) × (d ≡ retake n)
@@ -96,7 +98,8 @@ pub record Exhibits (f : File) (w : World) (ms : List Move) : Type 0 where
   -- the four returns, an exchange, a split and a join
   pub returns : Done born f w ms × Done restored f w ms × Done dropped f w ms
       × Occurs (λ s id d. (n l : ℕ) × (d ≡ lost n l)) f w ms
-  pub others : Occurs (λ s id d. d ≡ split) f w ms × Done join f w ms
+  pub others : Occurs (λ s id d. (h : Home) × (d ≡ exchange h)) f w ms × Occurs (λ s id d. d ≡ split) f w ms
+      × Done join f w ms
   -- at the end one actor is left, with the whole share; it took in another, and its own Met has each kind of answer;
   -- some name is Here, and some is Dropped
   pub last : (v : View) × IsLast (read f (run f w ms)) 0 v × Full v.own × (0 < length v.gone)

@@ -6,7 +6,9 @@ use Rattle.mf_machine.specs.declared.view.Met.{Met}
 use Rattle.mf_machine.specs.declared.view.View.{View}
 use Rattle.mf_machine.specs.Actors.{Among, HasRight, HasLooked, LastLooked, SawShut, IsGetting, IsBearing, IsRetaking}
 use Rattle.mf_machine.specs.Actors.{IsLosing, IsDropping, live, PinHolds}
-use Rattle.mf_machine.specs.Counts.{times, lines, foreign, total}
+use Rattle.mf_machine.specs.Answers.{Answer, number, refused, missed, already, pinned, unborn, here, lost, not_lost}
+use Rattle.mf_machine.specs.Answers.{not_dropped, often}
+use Rattle.mf_machine.specs.Counts.{times, total}
 use Rattle.mf_machine.specs.File.{File, removed, Opening, State, Holds, IsLoseLine, HasCell}
 use Rattle.mf_machine.specs.Sums.{publishings, closings, puts, loses, loses_by, restores, drops, in_birth, in_retake}
 use Rattle.mf_machine.specs.Sums.{in_lose, in_drop, begun_of, opened_of, lost_bit}
@@ -101,69 +103,98 @@ pub record Cells (f : File) (s : State) : Type 0 where
   pub held : (j : ℕ) (v : View) → IsActor s j v → (n : ℕ) → HasTaken v n
       → (n < f.names) × (s.name n ≡ word.taken) × (PinHolds f v.hold v.work n ⊎ IsInside v n)
 
+-- the number is the opening's, or the greatest published one where there is one
+abbrev pub NumberGiven : Opening → State → Type 0
+NumberGiven k s = ((s.number ≡ k.number) × ((m : ℕ) → total (publishings m) s.views ≡ 0))
+    ⊎ Stands (publishings s.number) s
+
+abbrev pub Greatest : State → ℕ → Type 0
+Greatest s m = Stands (publishings m) s → m ≤ s.number
+
+-- no publishing, closing, put or drop stands twice, and none of it was so at the opening
+abbrev pub PublishedOnce : Opening → State → ℕ → Type 0
+PublishedOnce k s m = Stands (publishings m) s → (total (publishings m) s.views ≡ 1) × (k.number < m)
+
+abbrev pub ClosedOnce : Opening → State → ℕ → Type 0
+ClosedOnce k s g = Stands (closings g) s → (total (closings g) s.views ≡ 1) × (k.closed g ≢ true)
+
+abbrev pub PutOnce : Opening → State → ℕ → Type 0
+PutOnce k s n = Stands (puts n) s → (total (puts n) s.views ≡ 1) × (k.name n ≡ word.unborn)
+
+abbrev pub DroppedOnce : Opening → State → ℕ → Type 0
+DroppedOnce k s n = Stands (drops n) s → (total (drops n) s.views ≡ 1) × (k.name n ≢ word.dropped)
+
+-- a generation is closed exactly where it was so or some actor has closed it
+abbrev pub ClosedBy : Opening → State → ℕ → Type 0
+ClosedBy k s g = IsClosed s g ↔ ((k.closed g ≡ true) ⊎ Stands (closings g) s)
+
+-- a name is Unborn, or Taken in a birth, exactly where it was Unborn and no actor has put it
+abbrev pub UnbornStill : Opening → State → ℕ → Type 0
+UnbornStill k s n = ((s.name n ≡ word.unborn) ⊎ Stands (in_birth n) s)
+    ↔ ((k.name n ≡ word.unborn) × (total (puts n) s.views ≡ 0))
+
+-- a name is Dropped exactly where it was so or some actor has dropped it
+abbrev pub DroppedBy : Opening → State → ℕ → Type 0
+DroppedBy k s n = (s.name n ≡ word.dropped) ↔ ((k.name n ≡ word.dropped) ⊎ Stands (drops n) s)
+
+-- where a name isn't Dropped, its losses, with the opening's, are one more than its restores where it is Lost or Taken
+-- in a retake, and else as many
+abbrev pub LostOnceMore : Opening → State → ℕ → Type 0
+LostOnceMore k s n = s.name n ≢ word.dropped → IsLost (s.name n) ⊎ Stands (in_retake n) s
+    → total (loses n) s.views + lost_bit (k.name n) ≡ total (restores n) s.views + 1
+
+abbrev pub LostAsOften : Opening → State → ℕ → Type 0
+LostAsOften k s n = s.name n ≢ word.dropped → s.name n < word.lost 0 → total (in_retake n) s.views ≡ 0
+    → total (loses n) s.views + lost_bit (k.name n) ≡ total (restores n) s.views
+
+-- Lost(line) stands only where it was so or some actor has lost the name with that line
+abbrev pub LineGiven : Opening → State → ℕ → Type 0
+LineGiven k s n = (l : ℕ) → s.name n ≡ word.lost l → (k.name n ≡ word.lost l) ⊎ Stands (loses_by n l) s
+
 -- 9: all that the actors made accounts for the state
 pub record Accounted (f : File) (k : Opening) (s : State) : Type 0 where
-  -- the number is the opening's, or the greatest published one where there is one
-  pub number : ((s.number ≡ k.number) × ((m : ℕ) → total (publishings m) s.views ≡ 0)) ⊎ Stands (publishings s.number) s
-  pub greatest : (m : ℕ) → Stands (publishings m) s → m ≤ s.number
-  -- nothing stands twice, and none of it was so at the opening
-  pub published_once : (m : ℕ) → Stands (publishings m) s → (total (publishings m) s.views ≡ 1) × (k.number < m)
-  pub closed_once : (g : ℕ) → g < f.stages → Stands (closings g) s
-      → (total (closings g) s.views ≡ 1) × (k.closed g ≢ true)
-  pub put_once : (n : ℕ) → n < f.names → Stands (puts n) s → (total (puts n) s.views ≡ 1) × (k.name n ≡ word.unborn)
-  pub dropped_once : (n : ℕ) → n < f.names → Stands (drops n) s
-      → (total (drops n) s.views ≡ 1) × (k.name n ≢ word.dropped)
-  -- a generation is closed exactly where it was so or some actor has closed it
-  pub closed : (g : ℕ) → g < f.stages → IsClosed s g ↔ ((k.closed g ≡ true) ⊎ Stands (closings g) s)
-  -- a name is Unborn, or Taken in a birth, exactly where it was Unborn and no actor has put it
-  pub unborn : (n : ℕ) → n < f.names
-      → ((s.name n ≡ word.unborn) ⊎ Stands (in_birth n) s) ↔ ((k.name n ≡ word.unborn) × (total (puts n) s.views ≡ 0))
-  -- a name is Dropped exactly where it was so or some actor has dropped it
-  pub dropped : (n : ℕ) → n < f.names → (s.name n ≡ word.dropped) ↔ ((k.name n ≡ word.dropped) ⊎ Stands (drops n) s)
-  -- where a name isn't Dropped, its losses, with the opening's, are one more than its restores where it is Lost or
-  -- Taken in a retake, and else as many
-  pub lost : (n : ℕ) → n < f.names → s.name n ≢ word.dropped → IsLost (s.name n) ⊎ Stands (in_retake n) s
-      → total (loses n) s.views + lost_bit (k.name n) ≡ total (restores n) s.views + 1
-  pub kept : (n : ℕ) → n < f.names → s.name n ≢ word.dropped → s.name n < word.lost 0 → total (in_retake n) s.views ≡ 0
-      → total (loses n) s.views + lost_bit (k.name n) ≡ total (restores n) s.views
-  -- Lost(line) stands only where it was so or some actor has lost the name with that line
-  pub line : (n l : ℕ) → n < f.names → s.name n ≡ word.lost l → (k.name n ≡ word.lost l) ⊎ Stands (loses_by n l) s
+  pub number : NumberGiven k s
+  pub greatest : (m : ℕ) → Greatest s m
+  pub published_once : (m : ℕ) → PublishedOnce k s m
+  pub closed_once : (g : ℕ) → g < f.stages → ClosedOnce k s g
+  pub put_once : (n : ℕ) → n < f.names → PutOnce k s n
+  pub dropped_once : (n : ℕ) → n < f.names → DroppedOnce k s n
+  pub closed : (g : ℕ) → g < f.stages → ClosedBy k s g
+  pub unborn : (n : ℕ) → n < f.names → UnbornStill k s n
+  pub dropped : (n : ℕ) → n < f.names → DroppedBy k s n
+  pub lost : (n : ℕ) → n < f.names → LostOnceMore k s n
+  pub kept : (n : ℕ) → n < f.names → LostAsOften k s n
+  pub line : (n : ℕ) → n < f.names → LineGiven k s n
 
--- the causes of the answers of one Met
-pub record Causes (k : Opening) (s : State) (m : Met) : Type 0 where
-  -- a number looked at was the opening one, or some actor has published it
-  pub number : (n : ℕ) → Among n m.numbers → (n ≡ k.number) ⊎ Stands (publishings n) s
-  -- a generation answered Already, or whose pin was answered false, was closed at the opening, or some actor has closed
-  -- it
-  pub closed : (g : ℕ) → 0 < times g m.already + times g m.missed → (k.closed g ≡ true) ⊎ Stands (closings g) s
-  -- a name answered Unborn was Unborn at the opening
-  pub unborn : (n : ℕ) → Among n m.unborn → k.name n ≡ word.unborn
-  -- one answered Lost(line) was so at the opening, or some actor has lost it with that line
-  pub lost : (n l : ℕ) → 0 < lines n l m.lost → (k.name n ≡ word.lost l) ⊎ Stands (loses_by n l) s
-  -- one answered Here was so at the opening, or some actor has put or restored it, or is inside its birth or retake
-  pub here : (n : ℕ) → Among n m.here
-      → (k.name n ≡ word.here) ⊎ (Stands (puts n) s
-      ⊎ (Stands (restores n) s ⊎ (Stands (in_birth n) s ⊎ Stands (in_retake n) s)))
-  -- one whose lose was answered Nothing was Unborn, Lost or Dropped at the opening, or some actor has lost or dropped
-  -- it
-  pub not_lost : (n : ℕ) → Among n m.not_lost
-      → (k.name n ≡ word.unborn) ⊎ (IsLost (k.name n)
-      ⊎ ((k.name n ≡ word.dropped) ⊎ (Stands (loses n) s ⊎ Stands (drops n) s)))
-  -- one whose discard was answered Nothing was Unborn or Dropped at the opening, or some actor has lost or dropped it,
-  -- or is inside its lose or drop
-  pub not_dropped : (n : ℕ) → Among n m.not_dropped
-      → (k.name n ≡ word.unborn) ⊎ ((k.name n ≡ word.dropped)
-      ⊎ (Stands (loses n) s ⊎ (Stands (drops n) s ⊎ (Stands (in_lose n) s ⊎ Stands (in_drop n) s))))
-  -- where a begin was answered false, all Mets together have more begins answered true than this one has
-  pub refused : 0 < m.refused → m.begun < total begun_of s.views
-  -- where a close of g met more pins than its actor had, all Mets together have more pins made on an open g than this
-  -- one has
-  pub pinned : (g : ℕ) → 0 < foreign g m.pinned → times g m.opened < total (opened_of g) s.views
+-- the cause of an answer that stands in the Met m. A number looked at was the opening one, or some actor has published
+-- it. A generation answered Already, or whose pin was answered false, was closed at the opening, or some actor has
+-- closed it. A name answered Unborn was so at the opening; one answered Lost(line) was so, or some actor has lost it
+-- with that line; one answered Here was so, or some actor has put or restored it, or is inside its birth or retake. One
+-- whose lose was answered Nothing was Unborn, Lost or Dropped at the opening, or some actor has lost or dropped it; one
+-- whose discard was, was Unborn or Dropped at the opening, or some actor has lost or dropped it, or is inside its lose
+-- or drop. Where a begin was answered false, all Mets together have more begins answered true than this one has; where a
+-- close of g met more pins than its actor had, they have more pins made on an open g
+abbrev pub Cause : Opening → State → Met → Answer → Type 0
+Cause k s m (number n) = (n ≡ k.number) ⊎ Stands (publishings n) s
+Cause k s m (missed g) = (k.closed g ≡ true) ⊎ Stands (closings g) s
+Cause k s m (already g) = (k.closed g ≡ true) ⊎ Stands (closings g) s
+Cause k s m (unborn n) = k.name n ≡ word.unborn
+Cause k s m (lost n l) = (k.name n ≡ word.lost l) ⊎ Stands (loses_by n l) s
+Cause k s m (here n) = (k.name n ≡ word.here) ⊎ (Stands (puts n) s
+    ⊎ (Stands (restores n) s ⊎ (Stands (in_birth n) s ⊎ Stands (in_retake n) s)))
+Cause k s m (not_lost n) = (k.name n ≡ word.unborn) ⊎ (IsLost (k.name n) ⊎ ((k.name n ≡ word.dropped)
+    ⊎ (Stands (loses n) s ⊎ Stands (drops n) s)))
+Cause k s m (not_dropped n) = (k.name n ≡ word.unborn) ⊎ ((k.name n ≡ word.dropped)
+    ⊎ (Stands (loses n) s ⊎ (Stands (drops n) s ⊎ (Stands (in_lose n) s ⊎ Stands (in_drop n) s))))
+Cause k s m refused = m.begun < total begun_of s.views
+Cause k s m (pinned g pins own) = own < pins → times g m.opened < total (opened_of g) s.views
+Cause k s m a = Unit {0}
 
 -- 10: each answer in a Met has its cause; an actor that has the right has a begin answered true in its own Met, and one
 -- that has a pin on g a pin made on an open g
 pub record Caused (k : Opening) (s : State) : Type 0 where
-  pub answers : (j : ℕ) (v : View) → IsActor s j v → (m : Met) → IsMetOf v m → Causes k s m
+  pub answers : (j : ℕ) (v : View) → IsActor s j v → (m : Met) → IsMetOf v m
+      → (a : Answer) → 0 < often a m → Cause k s m a
   pub right : (j : ℕ) (v : View) → IsActor s j v → HasRight v.build → 0 < v.own.begun
   pub pin : (j : ℕ) (v : View) → IsActor s j v → (g : ℕ) → 0 < live g v → Among g v.own.opened
 

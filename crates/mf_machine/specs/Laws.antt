@@ -10,8 +10,8 @@ use Rattle.mf_machine.specs.declared.view.Step.{Step}
 use Rattle.mf_machine.specs.declared.view.View.{View}
 use Rattle.mf_machine.specs.declared.answer.Slot.TheVariants.{Hold, Work}
 use Rattle.mf_machine.specs.Actors.{Among, LacksRight, IsFreeSlot, Active, live, Free}
-use Rattle.mf_machine.specs.Answers.{Answer, number, often, makes, IsChange, Shows, said}
-use Rattle.mf_machine.specs.Counts.{times, losses, lines, foreign, total, all_begun, all_opened}
+use Rattle.mf_machine.specs.Answers.{Answer, number, missed, already, pinned, lost, often, makes, IsChange, Shows, said}
+use Rattle.mf_machine.specs.Counts.{times, losses, lines, total, all_begun, all_opened}
 use Rattle.mf_machine.specs.File.{File, Line, Opening, State, Holds, IsLoseLine, HasCell, name_word, removed}
 use Rattle.mf_machine.specs.Kept.{HasTaken, IsActor, IsClosed, IsMetOf, Caused, Kept}
 use Rattle.mf_machine.specs.Moves.{Move, Deed, by, May, after, Reached}
@@ -178,17 +178,18 @@ pub record LeadsBack (f : File) (k : Opening) (s : State) (j : ℕ) (v : View) :
   -- a false begin: another actor's begin answered true
   pub refused : 0 < v.own.refused → Another s j begun_of (all_begun v.gone)
   -- a close of g that met more pins than its actor had: another actor's pin on an open g
-  pub pinned : (g : ℕ) → 0 < foreign g v.own.pinned → Another s j (opened_of g) (all_opened g v.gone)
+  pub pinned : (g pins own : ℕ) → 0 < often (pinned g pins own) v.own → own < pins
+      → Another s j (opened_of g) (all_opened g v.gone)
   -- Already, or a pin answered false: the opening, or a close answered Done
-  pub already : (g : ℕ) (m : Met) → IsMetOf v m → 0 < times g m.already + times g m.missed
+  pub already : (g : ℕ) (m : Met) → IsMetOf v m → 0 < often (already g) m + often (missed g) m
       → (k.closed g ≡ true) ⊎ Someone s (closings g)
   -- Lost(line): the opening, or a loss with that line
-  pub lost : (n l : ℕ) (m : Met) → IsMetOf v m → 0 < lines n l m.lost
+  pub lost : (n l : ℕ) (m : Met) → IsMetOf v m → 0 < often (lost n l) m
       → (k.name n ≡ word.lost l) ⊎ Someone s (loses_by n l)
   -- Absent: the opening
-  pub absent : (m : Met) → IsMetOf v m → Among absent m.numbers → k.number ≡ absent
+  pub absent : (m : Met) → IsMetOf v m → 0 < often (number absent) m → k.number ≡ absent
   -- Removed: the opening, or a publishing of q + 1
-  pub removed : (m : Met) → IsMetOf v m → Among (removed f) m.numbers
+  pub removed : (m : Met) → IsMetOf v m → 0 < often (number (removed f)) m
       → (k.number ≡ removed f) ⊎ Someone s (publishings (removed f))
 
 abbrev pub CausesLeadBack : Type 0

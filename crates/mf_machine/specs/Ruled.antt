@@ -10,7 +10,9 @@ use Rattle.mf_machine.specs.declared.view.Seen.{Seen}
 use Rattle.mf_machine.specs.declared.view.View.{View}
 use Rattle.mf_machine.specs.Actors.{Among, HasRight, HasLooked, LastLooked, IsGetting, IsBearing, IsRetaking, IsLosing}
 use Rattle.mf_machine.specs.Actors.{IsDropping, IsTrying, on, live, PinHolds, NextHolds, WorkHolds, AllShown}
-use Rattle.mf_machine.specs.Counts.{bit, times, lines, foreign, total}
+use Rattle.mf_machine.specs.Answers.{Answer, number, refused, missed, closed, already, pinned, unborn, here, lost}
+use Rattle.mf_machine.specs.Answers.{not_lost, not_dropped, often}
+use Rattle.mf_machine.specs.Counts.{bit, times, total}
 use Rattle.mf_machine.specs.File.{File, removed, Opening, State, Holds, IsLoseLine, Home, HasCell}
 use Rattle.mf_machine.specs.Sums.{right_of, share_of, pins, publishings, lost_bit, Tally, tally, Counts, counts}
 use Rattle.mf_machine.specs.Words as word
@@ -99,19 +101,24 @@ pub record InsideIs (f : File) (name : ℕ → ℕ) (i : Inside) (hold work last
   pub trying : (n : ℕ) → IsTrying i n
       → (n < f.names) × AllShown f m n × IsLost i.tried × ((name n ≡ i.tried) ⊎ (name n ≡ word.dropped))
 
--- what it was answered, and each actor that it took in
-pub record MetIs (k : Opening) (a : Tally) (m : Met) : Type 0 where
-  pub numbers : (n : ℕ) → Among n m.numbers → 0 < a.heard n
-  pub refused : 0 < m.refused → m.begun < a.begun
-  pub missed : (g : ℕ) → Among g m.missed → 0 < a.shuts g
-  pub closed : (g : ℕ) → Among g m.closed → 0 < a.shuts g
-  pub already : (g : ℕ) → Among g m.already → 0 < a.shuts g
-  pub pinned : (g : ℕ) → 0 < foreign g m.pinned → times g m.opened < a.opened g
-  pub unborn : (n : ℕ) → Among n m.unborn → k.name n ≡ word.unborn
-  pub here : (n : ℕ) → Among n m.here → 0 < a.raised n
-  pub lost : (n l : ℕ) → 0 < lines n l m.lost → 0 < a.lost_by n l
-  pub not_lost : (n : ℕ) → Among n m.not_lost → 0 < a.sunk n
-  pub not_dropped : (n : ℕ) → Among n m.not_dropped → 0 < a.hidden n
+-- the ground of an answer that stands in the Met m
+abbrev pub Ground : Opening → Tally → Met → Answer → Type 0
+Ground k a m (number n) = 0 < a.heard n
+Ground k a m refused = m.begun < a.begun
+Ground k a m (missed g) = 0 < a.shuts g
+Ground k a m (closed g) = 0 < a.shuts g
+Ground k a m (already g) = 0 < a.shuts g
+Ground k a m (pinned g pins own) = own < pins → times g m.opened < a.opened g
+Ground k a m (unborn n) = k.name n ≡ word.unborn
+Ground k a m (here n) = 0 < a.raised n
+Ground k a m (lost n l) = 0 < a.lost_by n l
+Ground k a m (not_lost n) = 0 < a.sunk n
+Ground k a m (not_dropped n) = 0 < a.hidden n
+Ground k a m x = Unit {0}
+
+-- each answer in it has its ground
+abbrev pub MetIs : Opening → Tally → Met → Type 0
+MetIs k a m = (x : Answer) → 0 < often x m → Ground k a m x
 
 -- what is known of one actor
 pub record Sits (f : File) (k : Opening) (number : ℕ) (name : ℕ → ℕ) (a : Tally) (v : View) : Type 0 where

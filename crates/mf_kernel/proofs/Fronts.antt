@@ -1,5 +1,5 @@
 -- A list of bytes whose first columns are made, and whose other columns are zero.
-use Rattle.std.proofs.Common.{◌≡◌, ℕ, ◌+◌, ◌-◌, ◌<◌, ◌≤◌, List, ◌++◌, length, get_or, take, drop, replicate, sym, ap, ap₂, ◌∙◌, arith, ⊎_elim}
+use Rattle.std.proofs.Common.{◌≡◌, ℕ, ◌+◌, ◌-◌, ◌<◌, ◌≤◌, List, [], ◌∷◌, ◌++◌, length, get_or, take, drop, replicate, sym, ap, ap₂, ◌∙◌, arith, add-zero, ⊎_elim}
 use Rattle.std.proofs.lemmas.Bool.{cases_lt}
 use Rattle.std.proofs.lemmas.List.{append-nil, length-append, length-replicate, take_at, drop_at, drop-drop, drop-replicate, get_or_append_left, get_or-append_right}
 use Rattle.mf_code.specs.Rows.{list_of}
@@ -19,6 +19,10 @@ list_of-add n k f =
         get_or-append_right (list_of n f) (list_of k (λ y. f (n + y))) n x 0 (length-list_of n f) h
         ∙ list_of_at k (λ y. f (n + y)) (x - n) (omega arith) ∙ ap f (let e : n + (x - n) ≡ x = omega arith in e))
         (cases_lt x n)
+
+-- one more entry
+pub list_of-more : (n : ℕ) (f : ℕ → ℕ) → list_of n f ++ (f n ∷ []) ≡ list_of (n + 1) f
+list_of-more n f = ap (λ (k : ℕ). list_of n f ++ (f k ∷ [])) (sym (add-zero n)) ∙ list_of-add n 1 f
 
 module _ (f : ℕ → ℕ) (size : ℕ) where
   -- f in the first n of `size` columns

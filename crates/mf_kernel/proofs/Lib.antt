@@ -3,3 +3,5 @@ pub mod Blocks
 pub mod Fronts
 pub mod Tables
 pub mod Scaled
+pub mod Dotted
+pub mod RowLists

@@ -1,1 +1,5 @@
+-- What the public calls promise.
+pub mod Dots
+-- Words of private functions.
 pub mod Tables
+pub mod Values

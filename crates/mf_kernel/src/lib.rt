@@ -2,9 +2,13 @@
 #![tactic(auto)]
 
 mod chunk;
+mod combining;
 mod factor;
+mod filling;
 mod kernels;
 mod lanes;
+mod row;
 
 pub use chunk::{Chunk, Memory};
+pub use combining::{combine, combine_all, powers};
 pub use kernels::{BLOCK, add_into, add_scaled, scale};

@@ -1,8 +1,7 @@
 //! Merging: the parity of a wide stripe, from the parities of the narrow stripes that it holds.
 #![tactic(auto)]
 
-ghost use Rattle.std.specs.Prelude.{◌≡◌, ◌+◌, ◌-◌, ◌*◌, ◌<◌, ◌≤◌, ℕ, List, ◌++◌, All, IfOk};
-ghost use Rattle.std.specs.Prelude.{length, take, drop};
+ghost use Rattle.std.specs.Prelude.{◌≡◌, ◌+◌, ◌*◌, ◌<◌, ◌≤◌, ℕ, List, All, IfOk, length};
 ghost use Rattle.mf_code.specs.Chunks.{parity};
 ghost use Rattle.mf_code.specs.Rows.{list_of};
 ghost use Rattle.mf_code.specs.Stripes.{narrow_parities};
@@ -10,7 +9,7 @@ ghost use Rattle.mf_merge.specs.Merged.{first_length, merged_byte};
 
 use mf_field::pow;
 pub use mf_kernel::{Chunk, Memory};
-use mf_kernel::{BLOCK, add_scaled};
+use mf_kernel::{add_scaled, combine, powers};
 use std::alloc::Global;
 
 /// The parity of a wide stripe with this point, from the parities with the same point of the stripes
@@ -30,14 +29,8 @@ pub fn merge(alloc: Global, point: u8, width: u32, parities: &[Chunk]) -> Result
         → parities.now ≡ narrow_parities size file point width factor j
         → IfOk result (λ merged. merged.items ≡ parity size file point (factor * width) j) }
 {
-    let size = parities[0].bytes().len();
-    let mut merged = vec![in alloc; 0; size]?;
-    for block in 0..size.div_ceil(BLOCK) {
-        let start = block * BLOCK;
-        let end = (start + BLOCK).min(size);
-        merge_into(point, width, parities, start, end, &mut merged);
-    }
-    Ok(merged)
+    let row = powers(alloc, point, width, parities.len())?;
+    combine(alloc, &row, parities, parities[0].bytes().len())
 }
 
 /// Fills `out` with the bytes from `start` on of the merged parity. Each of the parities has the
@@ -57,29 +50,6 @@ pub fn merge_block(point: u8, width: u32, parities: &[Chunk], start: usize, out:
         let end = start + out.len();
         add_scaled(out, pow(point, b as u32 * width), &bytes[start..end]);
     }
-}
-
-/// Fills the columns from `start` to `end` of the merged parity.
-fn merge_into(
-    point: u8,
-    width: u32,
-    parities: &[Chunk],
-    start: usize,
-    end: usize,
-    merged: &mut [u8],
-)
-    requires some { 1 ≤ length parities.now }
-    requires at_most { length parities.now ≤ 64 }
-    requires wide { 1 ≤ width }
-    requires narrow { width ≤ 64 }
-    requires columns { All (λ parity. end ≤ length parity) parities.now }
-    requires order { start ≤ end }
-    requires room { end ≤ length merged.old }
-    ensures { merged.new ≡ take start merged.old
-        ++ list_of (end - start) (λ x. merged_byte point width parities.now (start + x))
-        ++ drop end merged.old }
-{
-    merge_block(point, width, parities, start, &mut merged[start..end]);
 }
 
 #[cfg(test)]

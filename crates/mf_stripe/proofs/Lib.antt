@@ -1,5 +1,3 @@
-pub mod Zips
-pub mod Written
-pub mod Fronts
+pub mod Rowed
 pub mod Stripes
 pub mod Cuts

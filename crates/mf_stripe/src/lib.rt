@@ -1,21 +1,20 @@
 //! Encoding: the parities of a stripe, from its chunks.
 #![tactic(auto)]
 
-ghost use Rattle.std.specs.Prelude.{◌≡◌, ◌+◌, ◌<◌, ◌≤◌, ℕ, List, All, IfOk, length, map};
-ghost use Rattle.std.specs.Prelude.{slice_index, replicate};
+ghost use Rattle.std.specs.Prelude.{◌≡◌, ◌+◌, ◌^◌, ◌<◌, ◌≤◌, ℕ, List, All, IfOk, length, map};
+ghost use Rattle.std.specs.Prelude.{slice_index};
 ghost use Rattle.mf_code.specs.Chunks.{parity};
 ghost use Rattle.mf_code.specs.Rows.{list_of, column, weighted_lists};
 ghost use Rattle.mf_code.specs.Sums.{weighted};
 ghost use Rattle.mf_code.specs.Stripes.{stripe};
-ghost use Rattle.mf_stripe.specs.Block.{rows, with_columns};
-ghost use lib.Lanes.{zip2};
+ghost use Rattle.mf_kernel.specs.Dots.{rows, powers_of};
 
 mod cutting;
 
 pub use cutting::{cut, join, stripe_pieces};
 use mf_field::pow;
 pub use mf_kernel::{Chunk, Memory};
-use mf_kernel::{BLOCK, add_scaled};
+use mf_kernel::{add_scaled, combine_all, powers};
 use std::alloc::Global;
 
 /// The parities of a stripe of at most `width` pieces, one for each point. Pieces and parities have
@@ -38,14 +37,8 @@ pub fn encode(
         → IfOk result (λ parities. rows parities.items
         ≡ map (λ point. parity chunk file point width j) points.now) }
 {
-    let size = chunk as usize;
-    let mut parities = zeros(alloc, points.len(), size)?;
-    for block in 0..size.div_ceil(BLOCK) {
-        let start = block * BLOCK;
-        let end = (start + BLOCK).min(size);
-        encode_columns(points, width, pieces, start, end, &mut parities);
-    }
-    Ok(parities)
+    let rows = power_rows(alloc, points, pieces.len())?;
+    combine_all(alloc, &rows, pieces, chunk as usize)
 }
 
 /// Fills `out` with the bytes from `start` on of parity `p`, which is the one with the point
@@ -73,46 +66,14 @@ pub fn encode_block(
     }
 }
 
-/// Fills the columns from `start` to `end` of each parity.
-fn encode_columns(
-    points: &[u8],
-    width: u32,
-    pieces: &[Chunk],
-    start: usize,
-    end: usize,
-    parities: &mut [Vec<u8>],
-)
-    requires count { length pieces.now ≤ width }
-    requires columns { All (λ piece. end ≤ length piece) pieces.now }
-    requires order { start ≤ end }
-    requires parities { length parities.old ≡ length points.now }
-    requires room { All (λ bytes. end ≤ length bytes) (rows parities.old) }
-    ensures { rows parities.new
-        ≡ zip2 (with_columns start end pieces.now) points.now (rows parities.old) }
+// The powers of each point with the exponents 0, 1 and so on, `count` of them.
+fn power_rows(alloc: Global, points: &[u8], count: usize) -> Result<Vec<Vec<u8>>, Memory>
+    requires { count < 2 ^ 32 }
+    ensures { IfOk result (λ lists. rows lists.items ≡ map (powers_of count 1) points.now) }
 {
-    for (p, parity) in parities.iter_mut().enumerate() {
-        encode_into(points[p], width, pieces, start, end, parity);
-    }
-}
-
-/// Fills the columns from `start` to `end` of the parity with this point.
-fn encode_into(point: u8, width: u32, pieces: &[Chunk], start: usize, end: usize, parity: &mut [u8])
-    requires count { length pieces.now ≤ width }
-    requires columns { All (λ piece. end ≤ length piece) pieces.now }
-    requires order { start ≤ end }
-    requires room { end ≤ length parity.old }
-    ensures { parity.new ≡ with_columns start end pieces.now point parity.old }
-{
-    encode_block(&[point], width, 0, pieces, start, &mut parity[start..end]);
-}
-
-/// `count` lists of `size` zero bytes.
-fn zeros(alloc: Global, count: usize, size: usize) -> Result<Vec<Vec<u8>>, Memory>
-    ensures { IfOk result (λ lists. rows lists.items ≡ replicate count (replicate size 0)) }
-{
-    let mut lists = Vec::with_capacity(alloc, count)?;
-    for _ in 0..count {
-        lists.push(vec![in alloc; 0; size]?)?;
+    let mut lists = Vec::with_capacity(alloc, points.len())?;
+    for point in points {
+        lists.push(powers(alloc, *point, 1, count)?)?;
     }
     Ok(lists)
 }

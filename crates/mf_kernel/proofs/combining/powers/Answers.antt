@@ -1,4 +1,4 @@
-use Rattle.std.proofs.Common.{◌≡◌, ℕ, ◌*◌, [], ◌∷◌, ◌++◌, ap, sym, ◌∙◌, arith, add-zero, Fits, w32}
+use Rattle.std.proofs.Common.{ℕ, ◌*◌, [], ◌∷◌, ◌++◌, ap, ◌∙◌, arith}
 use Rattle.std.proofs.lemmas.Slice.{pushed}
 use Rattle.mf_code.specs.Field.{power}
 use Rattle.mf_code.specs.Rows.{list_of}

@@ -2,16 +2,22 @@
 use Rattle.std.proofs.Common.{◌≡◌, ℕ, zero, suc, ◌+◌, ◌*◌, ◌<◌, eqb, true, false, cond, List, [], ◌∷◌, ◌++◌, get_or, take, drop, subst, refl, inl, inr, ⊎_elim, arith}
 use Rattle.mf_machine.specs.declared.answer.Slot.TheVariants.{Hold, Work}
 use Rattle.mf_machine.specs.declared.view.View.{View}
-use Rattle.mf_machine.specs.Answers.{refused}
+use Rattle.mf_machine.specs.Answers as answer
+use Rattle.mf_machine.specs.Answers.{Answer}
+use Rattle.mf_machine.proofs.Entering.{enter, often_here}
+use Rattle.mf_machine.proofs.Words.{cell_here}
+use Rattle.mf_machine.specs.declared.view.Changes.{Changes}
+use Rattle.mf_machine.specs.declared.view.Made.{Made}
+use Rattle.mf_machine.specs.Worlds.{nothing_made, no_changes}
 use Rattle.mf_machine.specs.Actors.{NextHolds}
 use Rattle.mf_machine.specs.Counts.{truth}
 use Rattle.mf_machine.specs.File.{File, Opening, State, Holds, HasCell, Unharmed, name_word}
-use Rattle.mf_machine.specs.Kept.{Number, Pins, Born, Builder, Dropped, Losses, Cells, Accounted, Caused}
+use Rattle.mf_machine.specs.Kept.{Number, Pins, Born, Builder, Dropped, Losses, Cells, Cause}
 use Rattle.mf_machine.specs.Moves.{by, Deed, after, Move, Runs, run}
 use Rattle.mf_machine.specs.Rest.{Rest}
 use Rattle.mf_machine.specs.Worlds.{World, actor, Opens, first_view, fresh, nothing_seen, nothing_built}
 use Rattle.mf_machine.specs.Worlds.{nothing_met}
-use Rattle.mf_machine.specs.Exhibits.{Occurs, Exhibits, SomeRun, Breaks, EachBreaks}
+use Rattle.mf_machine.specs.Exhibits.{Occurs, Exhibits, SomeRun, Breaks, EachBreaks, AccountedBreaks, Uncaused, CausedBreaks}
 use Rattle.mf_machine.specs.File.Home.{away, empty, keeps}
 use Rattle.mf_machine.specs.Kept as kept
 use Rattle.mf_machine.specs.Moves as move
@@ -232,33 +238,136 @@ empty_cell f n h = empty_keeps (f.cell n) (h tt)
 cells_break : Breaks (λ f k s. Cells f s)
 cells_break = (file, start, state 2 0 (λ _. 0) (λ _. 1) [], rest, λ r. empty_cell file 0 (r.here 0 (omega arith) refl))
 
--- a number that nobody published
-accounted_breaks : Breaks (λ f k s. Accounted f k s)
-accounted_breaks = (file, start, state 1 0 (λ _. 0) (λ _. 0) [], rest, λ r. ⊎_elim (λ t. let e = t.0 in omega arith) (λ h. omega arith) r.number)
-
--- a begin answered false where nobody has begun
-abbrev was_refused : View
-was_refused = record (fresh 1 [] nothing_seen) { own = record nothing_met { refused = 1 } }
-
-caused_breaks : Breaks (λ f k s. Caused k s)
-caused_breaks = (
-  file,
-  start,
-  state 0 0 (λ _. 0) (λ _. 0) (was_refused ∷ []),
-  rest,
-  λ r. let t = r.answers 0 was_refused refl was_refused.own (inl refl) refused (omega arith) in omega arith,
-)
-
 pub each_breaks : EachBreaks
-each_breaks = (
-  number_breaks,
-  pins_break,
-  born_breaks,
-  seen_breaks,
-  builder_breaks,
-  dropped_breaks,
-  losses_break,
-  cells_break,
-  accounted_breaks,
-  caused_breaks,
+each_breaks = (number_breaks, pins_break, born_breaks, seen_breaks, builder_breaks, dropped_breaks, losses_break, cells_break)
+
+-- an actor that made this; one that was answered this
+abbrev maker : Made → View
+maker m = record (fresh 1 [] nothing_seen) { made = m }
+
+abbrev changer : Changes → View
+changer c = maker (record nothing_made { changes = c })
+
+abbrev told : Answer → View
+told a = record (fresh 1 [] nothing_seen) { own = enter a nothing_met }
+
+pub accounted_breaks : AccountedBreaks
+accounted_breaks = record {
+  number = (file, start, state 1 0 (λ _. 0) (λ _. 0) [], rest, λ r. ⊎_elim (λ t. let e = t.0 in omega arith) (λ h. omega arith) r);
+  greatest = (file, start, state 1 0 (λ _. 0) (λ _. 0) (maker (record nothing_made { numbers = 2 ∷ [] }) ∷ []), rest, λ r. let t = r 2 (omega arith) in omega arith);
+  published_once = (
+    file,
+    start,
+    state 1 0 (λ _. 0) (λ _. 0) (maker (record nothing_made { numbers = 1 ∷ 1 ∷ [] }) ∷ []),
+    rest,
+    λ r. let t = (r 1 (omega arith)).0 in omega arith,
+  );
+  closed_once = (
+    file,
+    start,
+    state 1 0 (λ _. 0) (λ _. 0) (maker (record nothing_made { closings = 0 ∷ 0 ∷ [] }) ∷ []),
+    rest,
+    λ r. let t = (r 0 (omega arith) (omega arith)).0 in omega arith,
+  );
+  put_once = (
+    file,
+    start,
+    state 1 0 (λ _. 0) (λ _. 0) (changer (record no_changes { put = 0 ∷ 0 ∷ [] }) ∷ []),
+    rest,
+    λ r. let t = (r 0 (omega arith) (omega arith)).0 in omega arith,
+  );
+  dropped_once = (
+    file,
+    start,
+    state 1 0 (λ _. 0) (λ _. 0) (changer (record no_changes { dropped = 0 ∷ 0 ∷ [] }) ∷ []),
+    rest,
+    λ r. let t = (r 0 (omega arith) (omega arith)).0 in omega arith,
+  );
+  closed = (
+    file,
+    start,
+    state 1 0 (λ _. 9223372036854775808) (λ _. 0) [],
+    rest,
+    λ r. ⊎_elim (λ e. false_true e) (λ h. omega arith) ((r 0 (omega arith)).0 (omega arith)),
+  );
+  unborn = (
+    file,
+    start,
+    state 1 0 (λ _. 0) (λ _. 1) [],
+    rest,
+    λ r. ⊎_elim (λ e. omega arith) (λ h. omega arith) ((r 0 (omega arith)).1 (refl, refl)),
+  );
+  dropped = (
+    file,
+    start,
+    state 1 0 (λ _. 0) (λ _. 3) [],
+    rest,
+    λ r. ⊎_elim (λ e. omega arith) (λ h. omega arith) ((r 0 (omega arith)).0 refl),
+  );
+  lost = (file, start, state 1 0 (λ _. 0) (λ _. 4) [], rest, λ r. let t = r 0 (omega arith) (λ e. omega arith) (inl (omega arith)) in omega arith);
+  kept = (
+    file,
+    start,
+    state 1 0 (λ _. 0) (λ _. 1) (changer (record no_changes { lost = (record { name = 0; line = 7 }) ∷ [] }) ∷ []),
+    rest,
+    λ r. let t = r 0 (omega arith) (λ e. omega arith) (omega arith) refl in omega arith,
+  );
+  line = (file, start, state 1 0 (λ _. 0) (λ _. 11) [], rest, λ r. ⊎_elim (λ e. omega arith) (λ h. omega arith) (r 0 (omega arith) 7 refl));
+}
+
+-- an opening in which each name is Here
+abbrev stored : Opening
+stored = record { number = 0; closed = λ _. false; name = λ _. 1; home = λ n. keeps (n ∷ []) }
+
+stored_rests : Rest file stored
+stored_rests = record {
+  number = omega arith;
+  closed = λ g l e. absurd (false_true e);
+  born = λ g l e n i h. absurd (omega arith);
+  settled = λ n l e. omega arith;
+  dropped = λ n l e. absurd (omega arith);
+  lost = λ n i l e. absurd (omega arith);
+  here = λ n l e. cell_here file n (keeps (n ∷ [])) refl;
+  bare = λ n l ne. absurd (ne refl);
+}
+
+-- an actor alone was answered so, and nobody made anything
+uncaused : (k : Opening) → Rest file k → (a : Answer) → (Cause k (state 0 0 (λ _. 0) (λ _. 0) (told a ∷ [])) (enter a nothing_met) a → ⊥) → Uncaused a
+uncaused k rests a never = (
+  file,
+  k,
+  state 0 0 (λ _. 0) (λ _. 0) (told a ∷ []),
+  rests,
+  λ r. never (r 0 (told a) refl (let e = often_here a nothing_met in omega arith)),
 )
+
+pub caused_breaks : CausedBreaks
+caused_breaks = record {
+  gate = (
+    uncaused start rest (answer.number 1) (λ c. ⊎_elim (λ e. omega arith) (λ h. omega arith) c),
+    uncaused start rest answer.refused (λ c. omega arith),
+    uncaused start rest (answer.missed 0) (λ c. ⊎_elim (λ e. false_true e) (λ h. omega arith) c),
+    uncaused start rest (answer.already 0) (λ c. ⊎_elim (λ e. false_true e) (λ h. omega arith) c),
+    uncaused start rest (answer.pinned 0 1 0) (λ c. let h = c (omega arith) in omega arith),
+  );
+  told = (
+    uncaused stored stored_rests (answer.unborn 0) (λ c. omega arith),
+    uncaused start rest (answer.here 0) (λ c. ⊎_elim (λ e. omega arith) (λ t. ⊎_elim (λ h. omega arith) (λ t. ⊎_elim (λ h. omega arith)
+        (λ t. ⊎_elim (λ h. omega arith) (λ h. omega arith) t) t) t) c),
+    uncaused start rest (answer.lost 0 7) (λ c. ⊎_elim (λ e. omega arith) (λ h. omega arith) c),
+  );
+  nothing = (
+    uncaused stored stored_rests (answer.not_lost 0) (λ c. ⊎_elim (λ e. omega arith) (λ t. ⊎_elim (λ h. omega arith) (λ t. ⊎_elim (λ h. omega arith)
+        (λ t. ⊎_elim (λ h. omega arith) (λ h. omega arith) t) t) t) c),
+    uncaused stored stored_rests (answer.not_dropped 0) (λ c. ⊎_elim (λ e. omega arith) (λ t. ⊎_elim (λ h. omega arith) (λ t. ⊎_elim (λ h. omega arith)
+        (λ t. ⊎_elim (λ h. omega arith) (λ t. ⊎_elim (λ h. omega arith) (λ h. omega arith) t) t) t) t) c),
+  );
+  right = (file, start, state 0 1 (λ _. 0) (λ _. 0) (sees_unborn ∷ []), rest, λ r. let t = r 0 sees_unborn refl refl in omega arith);
+  pin = (
+    file,
+    start,
+    state 1 0 (λ _. 1) (λ _. 0) (record (fresh 1 [] nothing_seen) { hold = 1 } ∷ []),
+    rest,
+    λ r. let t = r 0 (record (fresh 1 [] nothing_seen) { hold = 1 }) refl 0 (omega arith) in omega arith,
+  );
+}

@@ -7,10 +7,13 @@ use Rattle.mf_machine.specs.declared.answer.Slot.TheVariants.{Hold, Work}
 use Rattle.mf_machine.specs.declared.answer.State.TheVariants as told
 use Rattle.mf_machine.specs.declared.view.Met.{Met}
 use Rattle.mf_machine.specs.declared.view.View.{View}
-use Rattle.mf_machine.specs.Actors.{live, IsFreeSlot, IsPinnedOn, NextHolds}
+use Rattle.mf_machine.specs.Answers as answer
+use Rattle.mf_machine.specs.Answers.{Answer, often}
+use Rattle.mf_machine.specs.Actors.{Among, HasRight, live, IsFreeSlot, IsPinnedOn, NextHolds}
 use Rattle.mf_machine.specs.File.{File, Home, Opening, State, name_word, removed}
-use Rattle.mf_machine.specs.Kept.{IsInside, Number, Pins, Born, Seen, Builder, Dropped, Losses}
-use Rattle.mf_machine.specs.Kept.{Cells, Accounted, Caused}
+use Rattle.mf_machine.specs.Kept.{IsActor, IsInside, Number, Pins, Born, Seen, Builder, Dropped, Losses}
+use Rattle.mf_machine.specs.Kept.{Cells, NumberGiven, Greatest, PublishedOnce, ClosedOnce, PutOnce, DroppedOnce}
+use Rattle.mf_machine.specs.Kept.{ClosedBy, UnbornStill, DroppedBy, LostOnceMore, LostAsOften, LineGiven, Cause}
 use Rattle.mf_machine.specs.Laws.{IsLast}
 use Rattle.mf_machine.specs.Moves.{Move, Deed, look, pin, unpin, close, begin, end, publish, see, take, give, birth, born}
 use Rattle.mf_machine.specs.Moves.{lose, lost, retake, restored, drop, drop_again, dropped, exchange, split, join}
@@ -114,9 +117,37 @@ SomeRun = (f : File) × (k : Opening) × (first : World) × (ms : List Move)
 abbrev pub Breaks : (File → Opening → State → Type 0) → Type 0
 Breaks rule = (f : File) × (k : Opening) × (s : State) × Rest f k × (rule f k s → ⊥)
 
+-- each of the first eight rules
 abbrev pub EachBreaks : Type 0
 EachBreaks =
     Breaks (λ f k s. Number f s) × Breaks (λ f k s. Pins f s) × Breaks (λ f k s. Born f s)
     × Breaks (λ f k s. Seen f s) × Breaks (λ f k s. Builder f s) × Breaks (λ f k s. Dropped f s)
-    × Breaks (λ f k s. Losses f s) × Breaks (λ f k s. Cells f s) × Breaks (λ f k s. Accounted f k s)
-    × Breaks (λ f k s. Caused k s)
+    × Breaks (λ f k s. Losses f s) × Breaks (λ f k s. Cells f s)
+
+-- each clause of *Accounted*
+pub record AccountedBreaks : Type 0 where
+  pub number : Breaks (λ f k s. NumberGiven k s)
+  pub greatest : Breaks (λ f k s. (m : ℕ) → Greatest s m)
+  pub published_once : Breaks (λ f k s. (m : ℕ) → PublishedOnce k s m)
+  pub closed_once : Breaks (λ f k s. (g : ℕ) → g < f.stages → ClosedOnce k s g)
+  pub put_once : Breaks (λ f k s. (n : ℕ) → n < f.names → PutOnce k s n)
+  pub dropped_once : Breaks (λ f k s. (n : ℕ) → n < f.names → DroppedOnce k s n)
+  pub closed : Breaks (λ f k s. (g : ℕ) → g < f.stages → ClosedBy k s g)
+  pub unborn : Breaks (λ f k s. (n : ℕ) → n < f.names → UnbornStill k s n)
+  pub dropped : Breaks (λ f k s. (n : ℕ) → n < f.names → DroppedBy k s n)
+  pub lost : Breaks (λ f k s. (n : ℕ) → n < f.names → LostOnceMore k s n)
+  pub kept : Breaks (λ f k s. (n : ℕ) → n < f.names → LostAsOften k s n)
+  pub line : Breaks (λ f k s. (n : ℕ) → n < f.names → LineGiven k s n)
+
+-- some state breaks the cause of this answer
+abbrev pub Uncaused : Answer → Type 0
+Uncaused a = Breaks (λ f k s. (j : ℕ) (v : View) → IsActor s j v → 0 < often a v.own → Cause k s v.own a)
+
+-- each clause of *Caused*
+pub record CausedBreaks : Type 0 where
+  pub gate : Uncaused (answer.number 1) × Uncaused answer.refused × Uncaused (answer.missed 0)
+      × Uncaused (answer.already 0) × Uncaused (answer.pinned 0 1 0)
+  pub told : Uncaused (answer.unborn 0) × Uncaused (answer.here 0) × Uncaused (answer.lost 0 7)
+  pub nothing : Uncaused (answer.not_lost 0) × Uncaused (answer.not_dropped 0)
+  pub right : Breaks (λ f k s. (j : ℕ) (v : View) → IsActor s j v → HasRight v.build → 0 < v.own.begun)
+  pub pin : Breaks (λ f k s. (j : ℕ) (v : View) → IsActor s j v → (g : ℕ) → 0 < live g v → Among g v.own.opened)

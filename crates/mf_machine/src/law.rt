@@ -1,6 +1,6 @@
 //! The laws. A reached state is what any list of moves of any number of actors, splits and joins included, makes of any
 //! file at rest.
-ghost use Rattle.mf_machine.specs.Exhibits.{EachBreaks, SomeRun};
+ghost use Rattle.mf_machine.specs.Exhibits.{AccountedBreaks, CausedBreaks, EachBreaks, SomeRun};
 ghost use Rattle.mf_machine.specs.Laws.{AddsUp, AnswersEntered, AnswersFit, AnswersTell, CausesLeadBack};
 ghost use Rattle.mf_machine.specs.Laws.{LastBringsBack, Law, NotesTrue, OnlyGrows, PinnedStays};
 ghost use Rattle.mf_machine.specs.Laws.{RestGoesOn, RestIsKept, SeenHandedOn};
@@ -40,10 +40,16 @@ pub fn account_adds_up()
     ensures { AddsUp }
 {}
 
-/// No rule is empty: some run has every kind of step, and for each rule some state breaks it.
+/// No guard is too strong: in some run each step is made and each answer given.
+pub fn no_guard_is_too_strong()
+    ensures { SomeRun }
+{}
+
+/// No rule is empty: some state breaks each of the first eight, and each clause of the other two.
 pub fn no_rule_is_empty()
-    ensures run { SomeRun }
-    ensures breaks { EachBreaks }
+    ensures rules { EachBreaks }
+    ensures accounted { AccountedBreaks }
+    ensures caused { CausedBreaks }
 {}
 
 /// In every reached state: what an actor has seen and made only grows. It has it still after a move, or the move is a

@@ -10,7 +10,7 @@ mod view;
 pub use answer::{Closed, LoseStep, Slot, State};
 pub use law::{
     account_adds_up, answers_are_entered, answers_fit, answers_tell, causes_lead_back,
-    last_brings_back, no_rule_is_empty, notes_are_true, only_grows, pinned_stays, rest_goes_on,
-    rest_is_kept, rules_are_kept, seen_is_handed_on,
+    last_brings_back, no_guard_is_too_strong, no_rule_is_empty, notes_are_true, only_grows,
+    pinned_stays, rest_goes_on, rest_is_kept, rules_are_kept, seen_is_handed_on,
 };
 pub use view::{Build, Changes, Inside, Loss, Made, Met, Refusal, Seen, Step, View};

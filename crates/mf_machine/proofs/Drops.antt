@@ -8,7 +8,7 @@ use Rattle.mf_machine.specs.declared.view.View.{View}
 use Rattle.mf_machine.specs.Actors.{Active, Free, AllShown}
 use Rattle.mf_machine.specs.Answers as answer
 use Rattle.mf_machine.specs.Counts.{bit, total}
-use Rattle.mf_machine.specs.File.{File, Opening, State, Holds, Home}
+use Rattle.mf_machine.specs.File.{File, Opening, State, Holds}
 use Rattle.mf_machine.specs.File.Home.{away, empty}
 use Rattle.mf_machine.specs.Ruled.{Ruled}
 use Rattle.mf_machine.specs.Steps as row
@@ -38,23 +38,23 @@ only_going f k s n r inside shut is = let t = (r.words.names n inside).taken in 
     let h = work_open f k s j n u r e p.1 in let y = shut h.0 h.1 h.2 in let z = h.3 in omega arith) in omega arith
 
 module _ (f : File) (k : Opening) (s : State) (id : ℕ) (v : View) (r : Ruled f k s) (at : get_elem? s.views id ≡ some v) (active : Active v)
-    (p' r' : ℕ) (pins' name' : ℕ → ℕ) (home' : ℕ → Home) where
+    (s' : State) where
   -- each generation that holds a name which is being dropped is closed
   shut : (n : ℕ) → AllShown f v.own n → (g : ℕ) → g < f.stages → Holds f g n → 0 < (tally k s.views).shuts g
   shut n shown = shown_shut f k s.number s.number s.name s.name (tally k s.views) (tally k s.views) v.own n (r.each id v at).own shown
 
   -- the name is Here, and becomes Taken
-  pub drops_turn : (n i y : ℕ) → Free v → n < f.names → AllShown f v.own n → s.name n ≡ 1 → ButName f s n p' r' pins' name' home' → name' n ≡ 2
-      → home' n ≡ away
-      → Ruled f k (After f k s id v (counted i y (row.dropping n v)) p' r' pins' name' home')
+  pub drops_turn : (n i y : ℕ) → Free v → n < f.names → AllShown f v.own n → s.name n ≡ 1 → ButName f s n s' → s'.name n ≡ 2
+      → s'.home n ≡ away
+      → Ruled f k (After f k s id v (counted i y (row.dropping n v)) s')
   drops_turn n i y free inside shown here but now out = let w : View = counted i y (row.dropping n v) in let ws = r.words in let o = outside_of n v free in
       let o₄ = o.4 in let one = bit_is (n + 1) (n + 1) refl in let z : v.inside.dropping ≡ 0 = omega arith in
-      renamed f k s id v w p' r' pins' name' home' n silence refl r at refl but (omega arith, omega arith) (λ z. omega arith)
+      renamed f k s id v w s' n silence refl r at refl but (omega arith, omega arith) (λ z. omega arith)
       (λ m ne. record { counts = ap (λ z. record (parts m v) { in_drop = z }) (turn_else m n v.inside.dropping ne z); lost_by = λ l. refl })
       (adds_by silence v w refl (λ m. omega arith) (λ m. let b = bit_not v.inside.dropping (m + 1) (λ e. omega arith) in omega arith))
       (λ mv up. let m₀ = mv.in_get in let m₁ = mv.in_birth in let m₂ = mv.in_retake in let m₃ = mv.in_lose in let m₄ = mv.in_drop in
       let m₅ = mv.puts in let m₆ = mv.loses in let m₇ = mv.restores in let m₈ = mv.drops in
-      word.hidden_away f k n (s.name n) (name' n) (s.home n) (home' n)
+      word.hidden_away f k n (s.name n) (s'.name n) (s.home n) (s'.home n)
       (counts n s.views) (counts n (set s.views id w)) ((tally k s.views).lost_by n) ((tally k (set s.views id w)).lost_by n)
       (tally k s.views).shuts (tally k (set s.views id w)).shuts (ws.names n inside) here now out (omega arith) (omega arith) (omega arith) (omega arith)
       (omega arith))
@@ -77,14 +77,14 @@ module _ (f : File) (k : Opening) (s : State) (id : ℕ) (v : View) (r : Ruled f
       })
 
   -- the name is Dropped
-  pub is_dropped : (n : ℕ) → v.inside.dropping ≡ n + 1 → ButName f s n p' r' pins' name' home' → name' n ≡ 3 → home' n ≡ empty
-      → Ruled f k (After f k s id v (row.dropped n v) p' r' pins' name' home')
+  pub is_dropped : (n : ℕ) → v.inside.dropping ≡ n + 1 → ButName f s n s' → s'.name n ≡ 3 → s'.home n ≡ empty
+      → Ruled f k (After f k s id v (row.dropped n v) s')
   is_dropped n has_it but now bare = let w : View = row.dropped n v in let mine = r.each id v at in let ws = r.words in
       let inside = (mine.inside.dropping n has_it).0 in let more = times_here n v.made.changes.dropped in
       let one = bit_is v.inside.dropping (n + 1) has_it in let none : bit 0 (n + 1) ≡ 0 = bit_not 0 (n + 1) (λ e. omega arith) in
       let there = total_at (in_drop n) s.views id v at in
       let taken : s.name n ≡ 2 = (let t = (ws.names n inside).taken in bit_eq (s.name n) 2 (omega arith)) in
-      renamed f k s id v w p' r' pins' name' home' n (reply (answer.dropped n)) refl r at refl but (omega arith, omega arith) (λ z. omega arith)
+      renamed f k s id v w s' n (reply (answer.dropped n)) refl r at refl but (omega arith, omega arith) (λ z. omega arith)
       (λ m ne. record {
         counts = λ j. record (parts m v) { in_drop = back_else m n v.inside.dropping ne has_it j; drops = times_else m n v.made.changes.dropped ne j };
         lost_by = λ l. refl;
@@ -94,7 +94,7 @@ module _ (f : File) (k : Opening) (s : State) (id : ℕ) (v : View) (r : Ruled f
       (λ ne. let a = times_else m n v.made.changes.dropped ne in let b = back_else m n v.inside.dropping ne has_it in omega arith)))
       (λ mv up. let m₀ = mv.in_get in let m₁ = mv.in_birth in let m₂ = mv.in_retake in let m₃ = mv.in_lose in let m₄ = mv.in_drop in
       let m₅ = mv.puts in let m₆ = mv.loses in let m₇ = mv.restores in let m₈ = mv.drops in
-      word.shown_dropped f k n (s.name n) (name' n) (s.home n) (home' n)
+      word.shown_dropped f k n (s.name n) (s'.name n) (s.home n) (s'.home n)
       (counts n s.views) (counts n (set s.views id w)) ((tally k s.views).lost_by n) ((tally k (set s.views id w)).lost_by n)
       (tally k s.views).shuts (tally k (set s.views id w)).shuts (ws.names n inside) taken now bare
       (λ g l h. let a = shut n (mine.inside.dropping n has_it).1 g l h in let b = up.shuts g in omega arith) (omega arith) (omega arith) (omega arith))
@@ -117,24 +117,24 @@ module _ (f : File) (k : Opening) (s : State) (id : ℕ) (v : View) (r : Ruled f
       })
 
   -- the second try, which met the word of the first: the name is Dropped
-  pub drops_lost : (n i y : ℕ) → v.inside.trying ≡ n + 1 → s.name n ≡ v.inside.tried → ButName f s n p' r' pins' name' home' → name' n ≡ 3
-      → home' n ≡ s.home n
-      → Ruled f k (After f k s id v (counted i y (row.dropped_lost n v)) p' r' pins' name' home')
+  pub drops_lost : (n i y : ℕ) → v.inside.trying ≡ n + 1 → s.name n ≡ v.inside.tried → ButName f s n s' → s'.name n ≡ 3
+      → s'.home n ≡ s.home n
+      → Ruled f k (After f k s id v (counted i y (row.dropped_lost n v)) s')
   drops_lost n i y has_it same but now stays = let ep = but.number in let ename = but.names in let w : View = counted i y (row.dropped_lost n v) in
       let mine = r.each id v at in let ws = r.words in
       let try = mine.inside.trying n has_it in let inside = try.0 in let more = times_here n v.made.changes.dropped in
       let lost : 4 ≤ s.name n = (let a = try.2 in omega arith) in
-      let on : Onward s.name name' = onward_at s.name name' n ename (λ z. absurd (omega arith)) (λ z. now) in
-      let builds : Builds s.name name' = builds_at s.name name' n ename (λ z. absurd (omega arith)) (λ _. inr now) in
-      let ends : Ends f (tally k s.views) s.name name' = ends_at s.name name' n ename f (tally k s.views) (λ _ _. inr now) in
+      let on : Onward s.name s'.name = onward_at s.name s'.name n ename (λ z. absurd (omega arith)) (λ z. now) in
+      let builds : Builds s.name s'.name = builds_at s.name s'.name n ename (λ z. absurd (omega arith)) (λ _. inr now) in
+      let ends : Ends f (tally k s.views) s.name s'.name = ends_at s.name s'.name n ename f (tally k s.views) (λ _ _. inr now) in
       let add : Adds v w = adds_by (reply (answer.dropped n)) v w refl (λ m. omega arith) (λ m. let a = times_more m n v.made.changes.dropped in omega arith) in
-      let old = sits_on f k s.number p' s.name name' (tally k s.views) (tally k (set s.views id w)) v mine (omega arith) (λ _. ep)
+      let old = sits_on f k s.number s'.number s.name s'.name (tally k s.views) (tally k (set s.views id w)) v mine (omega arith) (λ _. ep)
       (grows f k s.views id v w at add) on (λ _. builds) ends in
-      named f k s id v w p' r' pins' name' home' n (reply (answer.dropped n)) refl r at refl but
+      named f k s id v w s' n (reply (answer.dropped n)) refl r at refl but
       (λ m ne. record { counts = ap (λ z. record (parts m v) { drops = z }) (times_else m n v.made.changes.dropped ne); lost_by = λ l. refl }) add
       (λ mv up. let m₀ = mv.in_get in let m₁ = mv.in_birth in let m₂ = mv.in_retake in let m₃ = mv.in_lose in let m₄ = mv.in_drop in
       let m₅ = mv.puts in let m₆ = mv.loses in let m₇ = mv.restores in let m₈ = mv.drops in
-      word.lost_dropped f k n (s.name n) (name' n) (s.home n) (home' n)
+      word.lost_dropped f k n (s.name n) (s'.name n) (s.home n) (s'.home n)
       (counts n s.views) (counts n (set s.views id w)) ((tally k s.views).lost_by n) ((tally k (set s.views id w)).lost_by n)
       (tally k s.views).shuts (tally k (set s.views id w)).shuts (ws.names n inside) lost now stays
       (λ g l h. let a = shut n try.1 g l h in let b = up.shuts g in omega arith) (omega arith) (omega arith) (omega arith))

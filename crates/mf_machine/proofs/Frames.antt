@@ -50,18 +50,6 @@ builds_same name = record { unborn = λ n e. e; lost = λ n h. inl h }
 pub ends_same : (f : File) (a : Tally) (name : ℕ → ℕ) → Ends f a name name
 ends_same f a name n shown l = inl refl
 
-pub grows_same : (a : Tally) → Grows a a
-grows_same a = record {
-  heard = λ n. omega arith;
-  shuts = λ g. omega arith;
-  lost_by = λ n l. omega arith;
-  raised = λ n. omega arith;
-  sunk = λ n. omega arith;
-  hidden = λ n. omega arith;
-  begun = omega arith;
-  opened = λ g. omega arith;
-}
-
 pub onward_eq : (name name' : ℕ → ℕ) → ((n : ℕ) → name' n ≡ name n) → Onward name name'
 onward_eq name name' e = record { born = λ n h. sym (e n) ∙ h; dropped = λ n h. e n ∙ h }
 

@@ -55,24 +55,19 @@ module _ (f : File) (k : Opening) (rest : Rest f k) (w : World) (fits : Fits f w
   at : get_elem? w.views id ≡ some (actor w id)
   at = here w id active
 
-  -- the state with these words and slots, and this view of the actor
-  abbrev Now : List ℕ → List Home → View → State
-  Now W H u = record {
-    number = get_or W 0 0;
-    right = get_or W 1 0;
-    pins = λ g. get_or W (g + 2) 0;
-    name = λ n. get_or W (name_word f n) 0;
-    home = λ n. get_or H n empty;
-    views = set w.views id u;
-  }
+  -- the state with one word written, these slots, and this view of the actor
+  abbrev Then : (i y : ℕ) → List Home → State
+  Then i y H = read f (record w { words = set w.words i y; homes = H })
+
+  abbrev Now : (i y : ℕ) → List Home → View → State
+  Now i y H u = record (Then i y H) { views = set w.views id u }
 
   -- a row that writes what it met
-  told_only : (i : ℕ) (u : View) → Ruled f k (record s { views = set w.views id u }) → Ruled f k (Now (set w.words i (word_of w i)) w.homes u)
-  told_only i u h = subst (λ (l : List ℕ). Ruled f k (Now l w.homes u)) (sym (set-get_or w.words i 0)) h
+  told_only : (i : ℕ) (u : View) → Ruled f k (record s { views = set w.views id u }) → Ruled f k (Now i (word_of w i) w.homes u)
+  told_only i u h = subst (λ (l : List ℕ). Ruled f k (record (read f (record w { words = l })) { views = set w.views id u })) (sym (set-get_or w.words i 0)) h
 
   -- what one written word leaves
-  but_pins : (g y : ℕ) → g < f.stages → let W : List ℕ = set w.words (g + 2) y in
-      ButPins s g (get_or W 0 0) (get_or W 1 0) (λ h. get_or W (h + 2) 0) (λ m. get_or W (name_word f m) 0) s.home
+  but_pins : (g y : ℕ) → g < f.stages → ButPins s g (Then (g + 2) y w.homes)
   but_pins g y below = record {
     number = get_or-set_other w.words (g + 2) 0 y 0 (λ e. omega arith);
     right = get_or-set_other w.words (g + 2) 1 y 0 (λ e. omega arith);
@@ -84,8 +79,7 @@ module _ (f : File) (k : Opening) (rest : Rest f k) (w : World) (fits : Fits f w
   is_pins : (g y : ℕ) → g < f.stages → get_or (set w.words (g + 2) y) (g + 2) 0 ≡ y
   is_pins g y below = let wide = fits.wide in get_or-set_same w.words (g + 2) y 0 (omega arith)
 
-  but_right : (y : ℕ) → let W : List ℕ = set w.words 1 y in
-      ButRight s (get_or W 0 0) (λ h. get_or W (h + 2) 0) (λ m. get_or W (name_word f m) 0) s.home
+  but_right : (y : ℕ) → ButRight s (Then 1 y w.homes)
   but_right y = record {
     number = get_or-set_other w.words 1 0 y 0 (λ e. omega arith);
     pins = λ g. get_or-set_other w.words 1 (g + 2) y 0 (λ e. omega arith);
@@ -96,8 +90,7 @@ module _ (f : File) (k : Opening) (rest : Rest f k) (w : World) (fits : Fits f w
   is_right : (y : ℕ) → get_or (set w.words 1 y) 1 0 ≡ y
   is_right y = let wide = fits.wide in get_or-set_same w.words 1 y 0 (omega arith)
 
-  but_number : (y : ℕ) → let W : List ℕ = set w.words 0 y in
-      ButNumber s (get_or W 1 0) (λ h. get_or W (h + 2) 0) (λ m. get_or W (name_word f m) 0) s.home
+  but_number : (y : ℕ) → ButNumber s (Then 0 y w.homes)
   but_number y = record {
     right = get_or-set_other w.words 0 1 y 0 (λ e. omega arith);
     pins = λ g. get_or-set_other w.words 0 (g + 2) y 0 (λ e. omega arith);
@@ -105,8 +98,7 @@ module _ (f : File) (k : Opening) (rest : Rest f k) (w : World) (fits : Fits f w
     homes = λ m. refl;
   }
 
-  but_name : (n y : ℕ) (H : List Home) → ((m : ℕ) → m ≢ n → get_or H m empty ≡ get_or w.homes m empty) → let W : List ℕ = set w.words (name_word f n) y in
-      ButName f s n (get_or W 0 0) (get_or W 1 0) (λ h. get_or W (h + 2) 0) (λ m. get_or W (name_word f m) 0) (λ m. get_or H m empty)
+  but_name : (n y : ℕ) (H : List Home) → ((m : ℕ) → m ≢ n → get_or H m empty ≡ get_or w.homes m empty) → ButName f s n (Then (name_word f n) y H)
   but_name n y H homes = record {
     number = get_or-set_other w.words (name_word f n) 0 y 0 (λ e. omega arith);
     right = get_or-set_other w.words (name_word f n) 1 y 0 (λ e. omega arith);
@@ -121,38 +113,44 @@ module _ (f : File) (k : Opening) (rest : Rest f k) (w : World) (fits : Fits f w
   is_home : (n : ℕ) (h : Home) → n < f.names → get_or (set w.homes n h) n empty ≡ h
   is_home n h inside = let deep = fits.deep in get_or-set_same w.homes n h empty (omega arith)
 
-  but_turn : (n y : ℕ) (h : Home) → let W : List ℕ = set w.words (name_word f n) y in
-      ButName f s n (get_or W 0 0) (get_or W 1 0) (λ g. get_or W (g + 2) 0) (λ m. get_or W (name_word f m) 0) (λ m. get_or (set w.homes n h) m empty)
-  but_turn n y h = but_name n y (set w.homes n h) (λ m ne. get_or-set_other w.homes n m h empty ne)
+  -- the state where the slot of n has h
+  abbrev Slot_is : (n y : ℕ) → Home → State
+  Slot_is n y h = Then (name_word f n) y (set w.homes n h)
+
+  but_slot : (n y : ℕ) (h : Home) → ButName f s n (Slot_is n y h)
+  but_slot n y h = but_name n y (set w.homes n h) (λ m ne. get_or-set_other w.homes n m h empty ne)
+
+  cell_home : (n : ℕ) (h : Home) → n < f.names → HasCell f n h → HasCell f n (get_or (set w.homes n h) n empty)
+  cell_home n h inside = subst (HasCell f n) (sym (is_home n h inside))
 
   pin_open : (g hold work : ℕ) → Idle v → g < f.stages → v.last ≡ g + 2 → ((h : ℕ) → on h hold work ≡ live h v + bit (g + 1) (h + 1))
-      → word_of w (g + 2) < 9223372036854775808 → let x : ℕ = word_of w (g + 2) in Ruled f k (Now (set w.words (g + 2) (x + 1)) w.homes
-      (counted (g + 2) x (record v { hold = hold; work = work; own = record v.own { opened = g ∷ v.own.opened } })))
-  pin_open g hold work idle below saw slots open_now = let x : ℕ = word_of w (g + 2) in let W : List ℕ = set w.words (g + 2) (x + 1) in
-      pins.pins_open f k s id (g + 2) v r at active (get_or W 0 0) (get_or W 1 0) (λ h. get_or W (h + 2) 0) (λ m. get_or W (name_word f m) 0) s.home
-      g x hold work idle below saw slots open_now (but_pins g (x + 1) below) (is_pins g (x + 1) below)
+      → word_of w (g + 2) < 9223372036854775808 → let x : ℕ = word_of w (g + 2) in
+      Ruled f k (Now (g + 2) (x + 1) w.homes (counted (g + 2) x (record v { hold = hold; work = work; own = record v.own { opened = g ∷ v.own.opened } })))
+  pin_open g hold work idle below saw slots open_now = let x : ℕ = word_of w (g + 2) in
+      pins.pins_open f k s id (g + 2) v r at active (Then (g + 2) (x + 1) w.homes) g x hold work idle below saw slots open_now (but_pins g (x + 1) below)
+      (is_pins g (x + 1) below)
 
   pin_any : (slot : Slot) (g : ℕ) → MayPin f slot g v → word_of w (g + 2) < 9223372036854775808 → let x : ℕ = word_of w (g + 2) in
-      Ruled f k (Now (set w.words (g + 2) (x + 1)) w.homes (counted (g + 2) x (row.pinned slot g v)))
-  pin_any Hold g may l = let none = may.3 in let saw = may.4 in pin_open g (g + 1) v.work may.1 may.2 (omega arith) (λ h. let z = bit_not v.hold (h + 1) (λ e. omega arith) in omega arith) l
-  pin_any Work g may l = let none = may.3 in let saw = may.4 in pin_open g v.hold (g + 1) may.1 may.2 (omega arith) (λ h. let z = bit_not v.work (h + 1) (λ e. omega arith) in omega arith) l
+      Ruled f k (Now (g + 2) (x + 1) w.homes (counted (g + 2) x (row.pinned slot g v)))
+  pin_any Hold g may l = let none = may.3 in let saw = may.4 in
+      pin_open g (g + 1) v.work may.1 may.2 (omega arith) (λ h. let z = bit_not v.hold (h + 1) (λ e. omega arith) in omega arith) l
+  pin_any Work g may l = let none = may.3 in let saw = may.4 in
+      pin_open g v.hold (g + 1) may.1 may.2 (omega arith) (λ h. let z = bit_not v.work (h + 1) (λ e. omega arith) in omega arith) l
 
   pin_at : (slot : Slot) (g : ℕ) → MayPin f slot g v → Ruled f k (read f (done f w id (move.pin slot g)))
-  pin_at slot g may = let x : ℕ = word_of w (g + 2) in let W : List ℕ = set w.words (g + 2) (x + 1) in
-      let P : Bool → Type 0 = λ b. Ruled f k (Now W w.homes (counted (g + 2) x (row.pin_view b slot g v))) in
-      dite (dec_le 9223372036854775808 x)
-      (λ l. picked P (ltb x 9223372036854775808) false (le-ltb x 9223372036854775808 l)
-      (pins.pins_shut f k s id (g + 2) v r at active (get_or W 0 0) (get_or W 1 0) (λ h. get_or W (h + 2) 0) (λ m. get_or W (name_word f m) 0) s.home
-      g x may.1 may.2 may.5 l (but_pins g (x + 1) may.2) (is_pins g (x + 1) may.2)))
-      (λ l. picked P (ltb x 9223372036854775808) true (lt-ltb x 9223372036854775808 (omega arith)) (pin_any slot g may (omega arith)))
+  pin_at slot g may = let x : ℕ = word_of w (g + 2) in let c : ℕ = 9223372036854775808 in
+      let P : Bool → Type 0 = λ b. Ruled f k (Now (g + 2) (x + 1) w.homes (counted (g + 2) x (row.pin_view b slot g v))) in
+      dite (dec_le c x)
+      (λ l. picked P (ltb x c) false (le-ltb x c l) (pins.pins_shut f k s id (g + 2) v r at active (Then (g + 2) (x + 1) w.homes) g x may.1 may.2 may.5 l
+      (but_pins g (x + 1) may.2) (is_pins g (x + 1) may.2)))
+      (λ l. picked P (ltb x c) true (lt-ltb x c (omega arith)) (pin_any slot g may (omega arith)))
 
-  unpin_both : (g hold work : ℕ) → Free v → ((h : ℕ) → live h v ≡ on h hold work + bit (g + 1) (h + 1)) → 0 < live g v
-      → let x : ℕ = word_of w (g + 2) in Ruled f k (Now (set w.words (g + 2) (x - 1)) w.homes (counted (g + 2) x (record v { hold = hold; work = work })))
-  unpin_both g hold work free slots some_live = let x : ℕ = word_of w (g + 2) in let W : List ℕ = set w.words (g + 2) (x - 1) in
-      let below = ((r.each id v at).pins g some_live).0 in let word = (r.words.pins g below).word in
-      let mine = total_at (Rattle.mf_machine.specs.Sums.pins g) w.views id v at in
-      pins.unpins f k s id (g + 2) v r at active (get_or W 0 0) (get_or W 1 0) (λ h. get_or W (h + 2) 0) (λ m. get_or W (name_word f m) 0) s.home
-      g x hold work free below slots (but_pins g (x - 1) below) (let e = is_pins g (x - 1) below in omega arith)
+  unpin_both : (g hold work : ℕ) → Free v → ((h : ℕ) → live h v ≡ on h hold work + bit (g + 1) (h + 1)) → 0 < live g v → let x : ℕ = word_of w (g + 2) in
+      Ruled f k (Now (g + 2) (x - 1) w.homes (counted (g + 2) x (record v { hold = hold; work = work })))
+  unpin_both g hold work free slots some_live = let x : ℕ = word_of w (g + 2) in let below = ((r.each id v at).pins g some_live).0 in
+      let word = (r.words.pins g below).word in let mine = total_at (Rattle.mf_machine.specs.Sums.pins g) w.views id v at in
+      pins.unpins f k s id (g + 2) v r at active (Then (g + 2) (x - 1) w.homes) g x hold work free below slots (but_pins g (x - 1) below)
+      (let e = is_pins g (x - 1) below in omega arith)
 
   unpin_at : (slot : Slot) (g : ℕ) → Free v → slot_of slot v ≡ g + 1 → Ruled f k (read f (done f w id (move.unpin slot g)))
   unpin_at Hold g free e = let one = bit_is v.hold (g + 1) e in unpin_both g 0 v.work free
@@ -161,13 +159,12 @@ module _ (f : File) (k : Opening) (rest : Rest f k) (w : World) (fits : Fits f w
       (λ h. let z = bit_not 0 (h + 1) (λ q. omega arith) in let c = ap (λ (y : ℕ). bit y (h + 1)) e in omega arith) (omega arith)
 
   close_at : (g : ℕ) → MayClose f g v → Ruled f k (read f (done f w id (move.close g)))
-  close_at g may = let i : ℕ = g + 2 in let x : ℕ = word_of w i in let c : ℕ = 9223372036854775808 in let W : List ℕ = set w.words i c in
-      let P : Bool → Bool → Type 0 = λ b d. Ruled f k (Now (set w.words i (cond b c x)) w.homes
+  close_at g may = let i : ℕ = g + 2 in let x : ℕ = word_of w i in let c : ℕ = 9223372036854775808 in
+      let P : Bool → Bool → Type 0 = λ b d. Ruled f k (Now i (cond b c x) w.homes
       (counted i x (row.close_view (cond b closing.Done (cond d (closing.Pins x) closing.Already)) g v))) in
       dite (ℕ_discrete x 0)
       (λ e. picked (λ b. P b (ltb x c)) (eqb x 0) true (eq-eqb x 0 e)
-      (pins.closes_done f k s id i v r at active (get_or W 0 0) (get_or W 1 0) (λ h. get_or W (h + 2) 0) (λ m. get_or W (name_word f m) 0) s.home
-      g x may.1 may.2 may.3 e (but_pins g c may.2) (is_pins g c may.2)))
+      (pins.closes_done f k s id i v r at active (Then i c w.homes) g x may.1 may.2 may.3 e (but_pins g c may.2) (is_pins g c may.2)))
       (λ ne. picked (λ b. P b (ltb x c)) (eqb x 0) false (ne_eqb x 0 ne) (dite (dec_le c x)
       (λ l. picked (P false) (ltb x c) false (le-ltb x c l)
       (told_only i (counted i x (row.closed_already g v)) (pins.closes_already f k s id i v r at active may.1 g may.2 l)))
@@ -175,29 +172,24 @@ module _ (f : File) (k : Opening) (rest : Rest f k) (w : World) (fits : Fits f w
       (told_only i (counted i x (row.closed_pins g x v)) (pins.closes_pins f k s id i v r at active may.1 g may.2 (omega arith))))))
 
   begin_at : Idle v → v.build.right ≡ 0 → Ruled f k (read f (done f w id move.begin))
-  begin_at idle not = let x : ℕ = word_of w 1 in let W : List ℕ = set w.words 1 1 in
-      let P : Bool → Type 0 = λ b. Ruled f k (Now (set w.words 1 (cond b 1 x)) w.homes (counted 1 x (row.begin_view b v))) in
+  begin_at idle not = let x : ℕ = word_of w 1 in
+      let P : Bool → Type 0 = λ b. Ruled f k (Now 1 (cond b 1 x) w.homes (counted 1 x (row.begin_view b v))) in
       dite (ℕ_discrete x 0)
-      (λ e. picked P (eqb x 0) true (eq-eqb x 0 e)
-      (rights.begins f k s id 1 v r at active idle (get_or W 0 0) (get_or W 1 0) (λ h. get_or W (h + 2) 0) (λ m. get_or W (name_word f m) 0) s.home
-      x not e (is_right 1) (but_right 1)))
+      (λ e. picked P (eqb x 0) true (eq-eqb x 0 e) (rights.begins f k s id 1 v r at active idle (Then 1 1 w.homes) x not e (is_right 1) (but_right 1)))
       (λ ne. picked P (eqb x 0) false (ne_eqb x 0 ne)
       (told_only 1 (counted 1 x (row.refused v)) (rights.refuses f k s id 1 v r at active idle not (omega arith))))
 
   end_at : Idle v → v.build.right ≡ 1 → Ruled f k (read f (done f w id move.end))
-  end_at idle has = let x : ℕ = word_of w 1 in let W : List ℕ = set w.words 1 0 in
-      rights.ends_right f k s id 1 v r at active idle (get_or W 0 0) (get_or W 1 0) (λ h. get_or W (h + 2) 0) (λ m. get_or W (name_word f m) 0) s.home
-      x has (is_right 0) (but_right 0)
+  end_at idle has = rights.ends_right f k s id 1 v r at active idle (Then 1 0 w.homes) (word_of w 1) has (is_right 0) (but_right 0)
 
   publish_at : (next : ℕ) → MayPublish f next v → Ruled f k (read f (done f w id (move.publish next)))
-  publish_at next may = let x : ℕ = word_of w 0 in let W : List ℕ = set w.words 0 next in let wide = fits.wide in
-      numbers.publishes f k s id 0 v r at active may.1 may.4.0 next x (get_or W 0 0) (get_or W 1 0) (λ h. get_or W (h + 2) 0)
-      (λ m. get_or W (name_word f m) 0) s.home may.2 may.3 may.4.1 may.4.2 (get_or-set_same w.words 0 next 0 (omega arith)) (but_number next)
+  publish_at next may = let wide = fits.wide in numbers.publishes f k s id 0 v r at active may.1 may.4.0 next (word_of w 0) (Then 0 next w.homes)
+      may.2 may.3 may.4.1 may.4.2 (get_or-set_same w.words 0 next 0 (omega arith)) (but_number next)
 
   see_at : (n : ℕ) → MaySee f n v → Ruled f k (read f (done f w id (move.see n)))
   see_at n may = let i : ℕ = name_word f n in let x : ℕ = word_of w i in let idle = may.1 in let inside = may.2 in
       let left = retakes.not_left f k s id n v r at inside may.3 in
-      let P : Bool → Bool → Type 0 = λ b d. Ruled f k (Now (set w.words i x) w.homes
+      let P : Bool → Bool → Type 0 = λ b d. Ruled f k (Now i x w.homes
       (counted i x (row.see_view (cond b told.Unborn (cond d (told.Lost (x - 4)) told.Here)) n v))) in
       dite (ℕ_discrete x 0)
       (λ e. picked (λ b. P b (leb 4 x)) (eqb x 0) true (eq-eqb x 0 e)
@@ -210,54 +202,38 @@ module _ (f : File) (k : Opening) (rest : Rest f k) (w : World) (fits : Fits f w
       (dite (ℕ_discrete x 1) (λ e. inl e) (λ d. inr (omega arith))))))))
 
   take_at : (n : ℕ) → MayTake f n v → Ruled f k (read f (done f w id (move.take n)))
-  take_at n may = let i : ℕ = name_word f n in let W : List ℕ = set w.words i 2 in let H : List Home = set w.homes n away in
-      let x : ℕ = word_of w i in let free = may.1 in let inside = may.2 in let idle : Idle v = omega arith in
-      let P : Bool → Bool → Type 0 = λ b d. Ruled f k (Now (set w.words i (cond b 2 x)) (homes_after (cond b (comes_out n) stays) w id)
+  take_at n may = let i : ℕ = name_word f n in let x : ℕ = word_of w i in let free = may.1 in let inside = may.2 in let idle : Idle v = omega arith in
+      let P : Bool → Bool → Type 0 = λ b d. Ruled f k (Now i (cond b 2 x) (homes_after (cond b (comes_out n) stays) w id)
       (counted i x (row.take_view (cond b row.chunk (cond d (row.gone (x - 4)) row.again)) n v))) in
       dite (ℕ_discrete x 1)
       (λ e. picked (λ b. P b (leb 4 x)) (eqb x 1) true (eq-eqb x 1 e)
-      (takes.takes f k s id v rest r at active (get_or W 0 0) (get_or W 1 0) (λ h. get_or W (h + 2) 0) (λ m. get_or W (name_word f m) 0)
-      (λ m. get_or H m empty) n i x free inside may.3 e (but_turn n 2 away) (is_name n 2 inside) (is_home n away inside)))
+      (takes.takes f k s id v rest r at active (Slot_is n 2 away) n i x free inside may.3 e (but_slot n 2 away) (is_name n 2 inside) (is_home n away inside)))
       (λ ne. picked (λ b. P b (leb 4 x)) (eqb x 1) false (ne_eqb x 1 ne) (dite (dec_le 4 x)
       (λ l. picked (P false) (leb 4 x) true (le-leb 4 x l)
       (told_only i (counted i x (row.told_lost n (x - 4) v)) (sees.sees_lost f k s id i n v rest r at active idle inside (x - 4) (omega arith))))
       (λ l. picked (P false) (leb 4 x) false (lt-leb 4 x (omega arith))
       (told_only i (counted i x v) (sees.sees_nothing f k s id i n v rest r at active idle inside)))))
 
-  birth_at : (n : ℕ) → MayBirth f n v → Ruled f k (read f (done f w id (move.birth n)))
-  birth_at n may = let i : ℕ = name_word f n in let W : List ℕ = set w.words i 2 in let H : List Home = set w.homes n away in
-      births.bears f k s id v r at active (get_or W 0 0) (get_or W 1 0) (λ h. get_or W (h + 2) 0) (λ m. get_or W (name_word f m) 0)
-      (λ m. get_or H m empty) n i (word_of w i) may.1 may.2 may.3 may.4 (but_turn n 2 away) (is_name n 2 may.2) (is_home n away may.2)
-
   lose_at : (n l : ℕ) → MayLose f n l v → Ruled f k (read f (done f w id (move.lose n l)))
-  lose_at n l may = let i : ℕ = name_word f n in let W : List ℕ = set w.words i 2 in let H : List Home = set w.homes n away in
-      let x : ℕ = word_of w i in let free = may.1 in let inside = may.2 in let idle : Idle v = omega arith in
-      let P : Bool → Bool → Type 0 = λ b d. Ruled f k (Now (set w.words i (cond b 2 x)) (homes_after (cond b (comes_out n) stays) w id)
+  lose_at n l may = let i : ℕ = name_word f n in let x : ℕ = word_of w i in let free = may.1 in let inside = may.2 in let idle : Idle v = omega arith in
+      let P : Bool → Bool → Type 0 = λ b d. Ruled f k (Now i (cond b 2 x) (homes_after (cond b (comes_out n) stays) w id)
       (counted i x (row.lose_view (cond b lose.Done (cond d lose.Again lose.Nothing)) n l v))) in
       dite (ℕ_discrete x 1)
       (λ e. picked (λ b. P b (eqb x 2)) (eqb x 1) true (eq-eqb x 1 e)
-      (loses.loses_turn f k s id v r at active (get_or W 0 0) (get_or W 1 0) (λ h. get_or W (h + 2) 0) (λ m. get_or W (name_word f m) 0)
-      (λ m. get_or H m empty) n l i x free inside e (but_turn n 2 away) (is_name n 2 inside) (is_home n away inside)))
+      (loses.loses_turn f k s id v r at active (Slot_is n 2 away) n l i x free inside e (but_slot n 2 away) (is_name n 2 inside) (is_home n away inside)))
       (λ ne. picked (λ b. P b (eqb x 2)) (eqb x 1) false (ne_eqb x 1 ne) (dite (ℕ_discrete x 2)
       (λ e. picked (P false) (eqb x 2) true (eq-eqb x 2 e)
       (told_only i (counted i x v) (sees.sees_nothing f k s id i n v rest r at active idle inside)))
       (λ d. picked (P false) (eqb x 2) false (ne_eqb x 2 d)
       (told_only i (counted i x (row.not_lost n v)) (sees.not_lost f k s id i n v rest r at active idle inside ne d)))))
 
-  retake_at : (n : ℕ) → MayRetake f n v → Ruled f k (read f (done f w id (move.retake n)))
-  retake_at n may = let i : ℕ = name_word f n in let W : List ℕ = set w.words i 2 in let H : List Home = set w.homes n away in
-      retakes.retakes f k s id v r at active (get_or W 0 0) (get_or W 1 0) (λ h. get_or W (h + 2) 0) (λ m. get_or W (name_word f m) 0)
-      (λ m. get_or H m empty) n i (word_of w i) may.1 may.2 may.3 may.4 (but_turn n 2 away) (is_name n 2 may.2) (is_home n away may.2)
-
   drop_at : (n : ℕ) → MayDrop f n v → Ruled f k (read f (done f w id (move.drop n)))
-  drop_at n may = let i : ℕ = name_word f n in let W : List ℕ = set w.words i 2 in let H : List Home = set w.homes n away in
-      let x : ℕ = word_of w i in let free = may.1 in let inside = may.2 in let shown = may.3 in
-      let P : Bool → Bool → Type 0 = λ b d. Ruled f k (Now (set w.words i (cond b 2 x)) (homes_after (cond b (comes_out n) stays) w id)
+  drop_at n may = let i : ℕ = name_word f n in let x : ℕ = word_of w i in let free = may.1 in let inside = may.2 in let shown = may.3 in
+      let P : Bool → Bool → Type 0 = λ b d. Ruled f k (Now i (cond b 2 x) (homes_after (cond b (comes_out n) stays) w id)
       (counted i x (row.drop_view (cond b row.drops (cond d row.tries row.nothing)) n x v))) in
       dite (ℕ_discrete x 1)
       (λ e. picked (λ b. P b (leb 4 x)) (eqb x 1) true (eq-eqb x 1 e)
-      (drops.drops_turn f k s id v r at active (get_or W 0 0) (get_or W 1 0) (λ h. get_or W (h + 2) 0) (λ m. get_or W (name_word f m) 0)
-      (λ m. get_or H m empty) n i x free inside shown e (but_turn n 2 away) (is_name n 2 inside) (is_home n away inside)))
+      (drops.drops_turn f k s id v r at active (Slot_is n 2 away) n i x free inside shown e (but_slot n 2 away) (is_name n 2 inside) (is_home n away inside)))
       (λ ne. picked (λ b. P b (leb 4 x)) (eqb x 1) false (ne_eqb x 1 ne) (dite (dec_le 4 x)
       (λ l. picked (P false) (leb 4 x) true (le-leb 4 x l)
       (told_only i (counted i x (row.trying n x v)) (drops.drops_try f k s id i n v r at active inside free shown l)))
@@ -266,46 +242,45 @@ module _ (f : File) (k : Opening) (rest : Rest f k) (w : World) (fits : Fits f w
       (dite (ℕ_discrete x 0) (λ e. inl e) (λ z. inr (dite (ℕ_discrete x 2) (λ e. inl e) (λ y. inr (omega arith))))))))))
 
   drop_again_at : (n : ℕ) → MayDropAgain n v → Ruled f k (read f (done f w id (move.drop_again n)))
-  drop_again_at n may = let i : ℕ = name_word f n in let x : ℕ = word_of w i in let t : ℕ = v.inside.tried in let W : List ℕ = set w.words i 3 in
+  drop_again_at n may = let i : ℕ = name_word f n in let x : ℕ = word_of w i in let t : ℕ = v.inside.tried in
       let try = (r.each id v at).inside.trying n may.1 in let inside = try.0 in
-      let P : Bool → Type 0 = λ b. Ruled f k (Now (set w.words i (cond b 3 x)) w.homes (counted i x (row.drop_again_view b n v))) in
+      let P : Bool → Type 0 = λ b. Ruled f k (Now i (cond b 3 x) w.homes (counted i x (row.drop_again_view b n v))) in
       dite (ℕ_discrete x t)
-      (λ e. picked P (eqb x t) true (eq-eqb x t e)
-      (drops.drops_lost f k s id v r at active (get_or W 0 0) (get_or W 1 0) (λ h. get_or W (h + 2) 0) (λ m. get_or W (name_word f m) 0)
-      s.home n i x may.1 e (but_name n 3 w.homes (λ m d. refl)) (is_name n 3 inside) refl))
+      (λ e. picked P (eqb x t) true (eq-eqb x t e) (drops.drops_lost f k s id v r at active (Then i 3 w.homes) n i x may.1 e
+      (but_name n 3 w.homes (λ m d. refl)) (is_name n 3 inside) refl))
       (λ ne. picked P (eqb x t) false (ne_eqb x t ne) (told_only i (counted i x (row.not_dropped n v))
       (drops.drops_nothing f k s id i n v r at active inside try.1 (⊎_elim (λ e. absurd (ne e)) (λ e. inr (inr e)) try.3))))
 
+  -- the turns of a birth and a retake
+  birth_at : (n : ℕ) → MayBirth f n v → Ruled f k (read f (done f w id (move.birth n)))
+  birth_at n may = births.bears f k s id v r at active (Slot_is n 2 away) n (name_word f n) (word_of w (name_word f n)) may.1 may.2 may.3 may.4
+      (but_slot n 2 away) (is_name n 2 may.2) (is_home n away may.2)
+
+  retake_at : (n : ℕ) → MayRetake f n v → Ruled f k (read f (done f w id (move.retake n)))
+  retake_at n may = retakes.retakes f k s id v r at active (Slot_is n 2 away) n (name_word f n) (word_of w (name_word f n)) may.1 may.2 may.3 may.4
+      (but_slot n 2 away) (is_name n 2 may.2) (is_home n away may.2)
+
   -- the returns
   give_at : (n : ℕ) → v.inside.getting ≡ n + 1 → HasCell f n (w.hands id) → Ruled f k (read f (done f w id (move.give n)))
-  give_at n has hand = let i : ℕ = name_word f n in let W : List ℕ = set w.words i 1 in let h : Home = w.hands id in let H : List Home = set w.homes n h in
-      let inside = ((r.each id v at).inside.getting n has).0 in
-      takes.gives f k s id v rest r at active (get_or W 0 0) (get_or W 1 0) (λ h. get_or W (h + 2) 0) (λ m. get_or W (name_word f m) 0)
-      (λ m. get_or H m empty) n i (word_of w i) has (but_turn n 1 h) (is_name n 1 inside) (subst (HasCell f n) (sym (is_home n h inside)) hand)
+  give_at n has hand = let h : Home = w.hands id in let inside = ((r.each id v at).inside.getting n has).0 in
+      takes.gives f k s id v rest r at active (Slot_is n 1 h) n (name_word f n) (word_of w (name_word f n)) has (but_slot n 1 h) (is_name n 1 inside)
+      (cell_home n h inside hand)
 
   born_at : (n : ℕ) → v.inside.bearing ≡ n + 1 → HasCell f n (w.hands id) → Ruled f k (read f (done f w id (move.born n)))
-  born_at n has hand = let i : ℕ = name_word f n in let W : List ℕ = set w.words i 1 in let h : Home = w.hands id in let H : List Home = set w.homes n h in
-      let inside = ((r.each id v at).inside.bearing n has).0 in
-      births.is_born f k s id v r at active (get_or W 0 0) (get_or W 1 0) (λ h. get_or W (h + 2) 0) (λ m. get_or W (name_word f m) 0)
-      (λ m. get_or H m empty) n has (but_turn n 1 h) (is_name n 1 inside) (subst (HasCell f n) (sym (is_home n h inside)) hand)
+  born_at n has hand = let h : Home = w.hands id in let inside = ((r.each id v at).inside.bearing n has).0 in
+      births.is_born f k s id v r at active (Slot_is n 1 h) n has (but_slot n 1 h) (is_name n 1 inside) (cell_home n h inside hand)
 
   lost_at : (n l : ℕ) → row.MayBeLost f n l v → w.hands id ≡ empty → Ruled f k (read f (done f w id (move.lost n l)))
-  lost_at n l may hand = let i : ℕ = name_word f n in let W : List ℕ = set w.words i (4 + l) in let h : Home = w.hands id in
-      let H : List Home = set w.homes n h in let inside = (r.each id v at).inside.losing n may.1 in
-      loses.is_lost f k s id v r at active (get_or W 0 0) (get_or W 1 0) (λ h. get_or W (h + 2) 0) (λ m. get_or W (name_word f m) 0)
-      (λ m. get_or H m empty) n l may.1 may.3 (but_turn n (4 + l) h) (is_name n (4 + l) inside) (is_home n h inside ∙ hand)
+  lost_at n l may hand = let h : Home = w.hands id in let inside = (r.each id v at).inside.losing n may.1 in
+      loses.is_lost f k s id v r at active (Slot_is n (4 + l) h) n l may.1 may.3 (but_slot n (4 + l) h) (is_name n (4 + l) inside) (is_home n h inside ∙ hand)
 
   restored_at : (n : ℕ) → v.inside.retaking ≡ n + 1 → HasCell f n (w.hands id) → Ruled f k (read f (done f w id (move.restored n)))
-  restored_at n has hand = let i : ℕ = name_word f n in let W : List ℕ = set w.words i 1 in let h : Home = w.hands id in
-      let H : List Home = set w.homes n h in let inside = ((r.each id v at).inside.retaking n has).0 in
-      retakes.is_restored f k s id v r at active (get_or W 0 0) (get_or W 1 0) (λ h. get_or W (h + 2) 0) (λ m. get_or W (name_word f m) 0)
-      (λ m. get_or H m empty) n has (but_turn n 1 h) (is_name n 1 inside) (subst (HasCell f n) (sym (is_home n h inside)) hand)
+  restored_at n has hand = let h : Home = w.hands id in let inside = ((r.each id v at).inside.retaking n has).0 in
+      retakes.is_restored f k s id v r at active (Slot_is n 1 h) n has (but_slot n 1 h) (is_name n 1 inside) (cell_home n h inside hand)
 
   dropped_at : (n : ℕ) → v.inside.dropping ≡ n + 1 → w.hands id ≡ empty → Ruled f k (read f (done f w id (move.dropped n)))
-  dropped_at n has hand = let i : ℕ = name_word f n in let W : List ℕ = set w.words i 3 in let h : Home = w.hands id in
-      let H : List Home = set w.homes n h in let inside = ((r.each id v at).inside.dropping n has).0 in
-      drops.is_dropped f k s id v r at active (get_or W 0 0) (get_or W 1 0) (λ h. get_or W (h + 2) 0) (λ m. get_or W (name_word f m) 0)
-      (λ m. get_or H m empty) n has (but_turn n 3 h) (is_name n 3 inside) (is_home n h inside ∙ hand)
+  dropped_at n has hand = let h : Home = w.hands id in let inside = ((r.each id v at).inside.dropping n has).0 in
+      drops.is_dropped f k s id v r at active (Slot_is n 3 h) n has (but_slot n 3 h) (is_name n 3 inside) (is_home n h inside ∙ hand)
 
 module _ (f : File) (k : Opening) (rest : Rest f k) where
   abbrev Good : World → Type 0

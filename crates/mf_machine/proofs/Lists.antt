@@ -127,9 +127,6 @@ losses_else m n l xs ne = let z = bit_not n m (λ h. ne (sym h)) in omega arith
 pub lines_here : (n l : ℕ) (xs : List Loss) → lines n l ((record { name = n; line = l }) ∷ xs) ≡ 1 + lines n l xs
 lines_here n l xs = (λ i. cond (eq-eqb n n refl i) (bit l l) 0 + lines n l xs) ∙ ap (λ (z : ℕ). z + lines n l xs) (bit_is l l refl)
 
-pub lines_more : (n l : ℕ) (x : Loss) (xs : List Loss) → lines n l xs ≤ lines n l (x ∷ xs)
-lines_more n l x xs = omega arith
-
 -- an entry of a longer list of losses is the first, or an earlier one
 pub lines_cons : (n l : ℕ) (x : Loss) (xs : List Loss) (P : Type 0) → (n ≡ x.name → l ≡ x.line → P) → (0 < lines n l xs → P) → 0 < lines n l (x ∷ xs)
     → P

@@ -8,7 +8,7 @@ use Rattle.mf_machine.specs.declared.view.View.{View}
 use Rattle.mf_machine.specs.Actors.{Active, Idle}
 use Rattle.mf_machine.specs.Answers.{number}
 use Rattle.mf_machine.specs.Counts.{times, total}
-use Rattle.mf_machine.specs.File.{File, Opening, State, Holds, Home}
+use Rattle.mf_machine.specs.File.{File, Opening, State, Holds}
 use Rattle.mf_machine.specs.Ruled.{Words, Ruled}
 use Rattle.mf_machine.specs.Steps.{looked, published}
 use Rattle.mf_machine.specs.Sums.{right_of, share_of, publishings, tally}
@@ -42,12 +42,12 @@ module _ (f : File) (k : Opening) (s : State) (id i : ℕ) (v : View) (r : Ruled
       })
 
   -- publish: what the actor that has the right and has looked since its begin may publish
-  pub publishes : (m x y p' r' : ℕ) (pins' name' : ℕ → ℕ) (home' : ℕ → Home) → v.build.right ≡ 1 → v.build.looked ≡ 1 → v.last ≡ m + 1
+  pub publishes : (m x y : ℕ) (s' : State) → v.build.right ≡ 1 → v.build.looked ≡ 1 → v.last ≡ m + 1
       → ((x ≡ m + 1) × (x ≤ f.stages) × ((n : ℕ) → n < f.names → Holds f m n
       → 0 < times n v.build.settled)) ⊎ ((x ≡ f.stages + 1) × (1 ≤ m) × (m ≤ f.stages))
-      → p' ≡ x → ButNumber s r' pins' name' home'
-      → Ruled f k (After f k s id v (counted i y (published x v)) p' r' pins' name' home')
-  publishes m x y p' r' pins' name' home' has since last may ep but = let er = but.right in let epins = but.pins in let ename = but.names in
+      → s'.number ≡ x → ButNumber s s'
+      → Ruled f k (After f k s id v (counted i y (published x v)) s')
+  publishes m x y s' has since last may ep but = let er = but.right in let epins = but.pins in let ename = but.names in
       let ehome = but.homes in let w : View = counted i y (published x v) in let vs' : List View = set s.views id w in let mine = r.each id v at in
       let ws = r.words in let is : m ≡ s.number = (let c = mine.right.current has since in omega arith) in
       let above : s.number < x = ⊎_elim (λ t. let a = t.0 in omega arith) (λ t. let a = t.0 in let b = t.2 in omega arith) may in
@@ -59,7 +59,7 @@ module _ (f : File) (k : Opening) (s : State) (id i : ℕ) (v : View) (r : Ruled
       let b = times_here x v.made.numbers in omega arith) in
       let else_where : (n : ℕ) → n ≢ x
       → total (publishings n) vs' ≡ total (publishings n) s.views = λ n ne. total_same (publishings n) s.views id v w at (times_else n x v.made.numbers ne) in
-      stepped f k s id v w p' r' pins' name' home' (news x) refl r at
+      stepped f k s id v w s' (news x) refl r at
       record {
         number = record {
           top = omega arith;
@@ -75,23 +75,23 @@ module _ (f : File) (k : Opening) (s : State) (id i : ℕ) (v : View) (r : Ruled
         right = er ∙ (ws.right ∙ sym (total_same right_of s.views id v w at refl));
         one = let o = ws.one in omega arith;
         shares = let c = total_same share_of s.views id v w at refl in let d = ws.shares in omega arith;
-        pins = λ g l. pins_same f k s.views id v w at s.number p' g (s.pins g) (pins' g) (ws.pins g l) (omega arith) (epins g) refl refl refl;
-        names = names_calm f k s id v w p' r' pins' name' home' ws at refl refl ename ehome (λ g. omega arith);
+        pins = λ g l. pins_same f k s.views id v w at s.number s'.number g (s.pins g) (s'.pins g) (ws.pins g l) (omega arith) (epins g) refl refl refl;
+        names = names_calm f k s id v w s' ws at refl refl ename ehome (λ g. omega arith);
         born = λ g l h n q hold. dite (ℕ_discrete (g + 1) x)
             (λ e. ⊎_elim (λ t z. let u = t.0 in let same : g ≡ m = omega arith in mine.build.settled n (t.2 n q (subst
             (λ y. Holds f y n) same hold)) (sym (ename n) ∙ z)) (λ t z. let u = t.0 in omega arith) may)
             (λ ne z. let a = else_where (g + 1) ne in ws.born g l (omega arith) n q hold (sym (ename n) ∙ z));
       }
-      (omega arith) (λ j u ne e h. absurd (one_right f k s id j v u ws at e ne has h)) add (onward_eq s.name name' ename)
-      (ends_eq f (tally k s.views) s.name name' ename) (let a = heard in (omega arith, omega arith))
+      (omega arith) (λ j u ne e h. absurd (one_right f k s id j v u ws at e ne has h)) add (onward_eq s.name s'.name ename)
+      (ends_eq f (tally k s.views) s.name s'.name ename) (let a = heard in (omega arith, omega arith))
       record {
         active = active;
         strays = mine.strays;
         last = λ n e. let same : n ≡ x = omega arith in
             (omega arith, subst (λ z. 0 < times z (x ∷ v.own.numbers)) (sym same) (let a = times_here x v.own.numbers in omega arith));
         right = record { bit = mine.right.bit; current = λ _ _. omega arith; has = mine.right.has };
-        build = (let b = build_on f k s.number p' s.name name' (tally k s.views) (tally k vs') v.build v.inside mine.build (onward_eq s.name name' ename)
-            (λ _. builds_eq s.name name' ename) in record { unborn = b.unborn; lost = b.lost; settled = b.settled });
+        build = (let b = build_on f k s.number s'.number s.name s'.name (tally k s.views) (tally k vs') v.build v.inside mine.build (onward_eq s.name s'.name ename)
+            (λ _. builds_eq s.name s'.name ename) in record { unborn = b.unborn; lost = b.lost; settled = b.settled });
         pins = λ g h. let t = mine.pins g h in (t.0, let a = t.1 in omega arith, t.2);
-        inside = idle_inside f name' w.inside w.hold w.work w.last w.build w.own idle (λ n e. mine.inside.getting n e);
+        inside = idle_inside f s'.name w.inside w.hold w.work w.last w.build w.own idle (λ n e. mine.inside.getting n e);
       }

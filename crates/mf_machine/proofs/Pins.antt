@@ -8,7 +8,7 @@ use Rattle.mf_machine.specs.declared.view.View.{View}
 use Rattle.mf_machine.specs.Actors.{Active, Idle, Free, on, live}
 use Rattle.mf_machine.specs.Answers as answer
 use Rattle.mf_machine.specs.Counts.{bit, times, total}
-use Rattle.mf_machine.specs.File.{File, Opening, State, Home}
+use Rattle.mf_machine.specs.File.{File, Opening, State}
 use Rattle.mf_machine.specs.Ruled.{PinsAre, SitsIn, Ruled}
 use Rattle.mf_machine.specs.Steps.{missed, closed_done, closed_pins, closed_already}
 use Rattle.mf_machine.specs.Sums.{right_of, share_of, stray, pins, closings, opened_of, tally}
@@ -54,34 +54,34 @@ pub shut_word : (f : File) (k : Opening) (s : State) (g : ℕ) → Ruled f k s �
 shut_word f k s g r l h = let is = (r.words.pins g l).word in let one = (r.words.pins g l).once in let few = few_pins f k s g r in omega arith
 
 module _ (f : File) (k : Opening) (s : State) (id i : ℕ) (v : View) (r : Ruled f k s) (at : get_elem? s.views id ≡ some v) (active : Active v)
-    (p' r' : ℕ) (pins' name' : ℕ → ℕ) (home' : ℕ → Home) where
+    (s' : State) where
   -- the pin falls on an open generation: the two slots are then `hold` and `work`
   pub pins_open : (g y hold work : ℕ) → Idle v → g < f.stages → v.last ≡ g + 2 → ((h : ℕ) → on h hold work ≡ live h v + bit (g + 1) (h + 1))
       → s.pins g < 9223372036854775808
-      → ButPins s g p' r' pins' name' home' → pins' g ≡ s.pins g + 1
+      → ButPins s g s' → s'.pins g ≡ s.pins g + 1
       → Ruled f k (After f k s id v (counted i y (record v {
         hold = hold;
         work = work;
         own = record v.own { opened = g ∷ v.own.opened };
-      })) p' r' pins' name' home')
+      })) s')
   pins_open g y hold work idle below saw slots free but here = let there = but.pins in let ep = but.number in let w : View = counted i y (record v {
     hold = hold;
     work = work;
     own = record v.own { opened = g ∷ v.own.opened };
   }) in let vs' : List View = set s.views id w in let mine = r.each id v at in let ws = r.words in
       let word = open_word f k s g r below free in let shut = word.0 in let c = total_same (closings g) s.views id v w at refl in
-      gated f k s id v w p' r' pins' name' home' (reply (answer.opened g)) refl r at ep but.names but.homes refl refl refl refl
+      gated f k s id v w s' (reply (answer.opened g)) refl r at ep but.names but.homes refl refl refl refl
       (λ up. (
         but.right ∙ (ws.right ∙ sym (total_same right_of s.views id v w at refl)),
         let o = ws.one in let er = but.right in omega arith,
         (λ h l. dite (ℕ_discrete h g)
-            (λ e. subst (λ z. PinsAre p' z (pins' z) ((tally k vs').shuts z) (total (live z) vs') (total (pins z) vs')) (sym e)
+            (λ e. subst (λ z. PinsAre s'.number z (s'.pins z) ((tally k vs').shuts z) (total (live z) vs') (total (pins z) vs')) (sym e)
             record {
               word = let d = total_set (pins g) s.views id v w at in let q = slots g in let b = bit_is (g + 1) (g + 1) refl in let a = word.1 in omega arith;
               once = omega arith;
               low = λ z. absurd (omega arith);
             })
-            (λ ne. pins_same f k s.views id v w at s.number p' h (s.pins h) (pins' h) (ws.pins h l) (omega arith) (there h ne) (let q = slots h in
+            (λ ne. pins_same f k s.views id v w at s.number s'.number h (s.pins h) (s'.pins h) (ws.pins h l) (omega arith) (there h ne) (let q = slots h in
             let b = bit_not (g + 1) (h + 1) (λ e. ne (omega arith)) in omega arith) refl refl)),
         (tt, tt),
       ))
@@ -99,30 +99,30 @@ module _ (f : File) (k : Opening) (s : State) (id i : ℕ) (v : View) (r : Ruled
             ))
             (λ ne. let q = slots h in let b = bit_not (g + 1) (h + 1) (λ e. ne (omega arith)) in let t = mine.pins h (omega arith) in
             (t.0, t.1, let a = t.2 in omega arith));
-        inside = idle_inside f name' w.inside w.hold w.work w.last w.build w.own idle
+        inside = idle_inside f s'.name w.inside w.hold w.work w.last w.build w.own idle
             (λ n e. let t = mine.inside.getting n e in let h = t.1 in let q = slots h.0 in let u = h.2 in (t.0, (h.0, h.1, omega arith, h.3)));
       })
 
   -- the pin falls on a closed one
   pub pins_shut : (g y : ℕ) → Idle v → g < f.stages → times g v.seen.shut ≡ 0 → 9223372036854775808 ≤ s.pins g
-      → ButPins s g p' r' pins' name' home' → pins' g ≡ s.pins g + 1
-      → Ruled f k (After f k s id v (counted i y (missed g v)) p' r' pins' name' home')
+      → ButPins s g s' → s'.pins g ≡ s.pins g + 1
+      → Ruled f k (After f k s id v (counted i y (missed g v)) s')
   pins_shut g y idle below open_yet shut_now but here = let there = but.pins in let ep = but.number in let w : View = counted i y (missed g v) in
       let vs' : List View = set s.views id w in let mine = r.each id v at in let ws = r.words in let c = total_same (closings g) s.views id v w at refl in
       let shut = shut_word f k s g r below shut_now in let never : stray g v ≡ 0 = dite (ℕ_discrete (stray g v) 0) (λ e. e)
       (λ ne. let a = (mine.strays g (omega arith)).0 in absurd (omega arith)) in
-      gated f k s id v w p' r' pins' name' home' (reply (answer.missed g)) refl r at ep but.names but.homes refl refl refl refl
+      gated f k s id v w s' (reply (answer.missed g)) refl r at ep but.names but.homes refl refl refl refl
       (λ up. (
         but.right ∙ (ws.right ∙ sym (total_same right_of s.views id v w at refl)),
         let o = ws.one in let er = but.right in omega arith,
         (λ h l. dite (ℕ_discrete h g)
-            (λ e. subst (λ z. PinsAre p' z (pins' z) ((tally k vs').shuts z) (total (live z) vs') (total (pins z) vs')) (sym e)
+            (λ e. subst (λ z. PinsAre s'.number z (s'.pins z) ((tally k vs').shuts z) (total (live z) vs') (total (pins z) vs')) (sym e)
             record {
               word = let d = total_set (pins g) s.views id v w at in let b = times_here g v.strays in let a = (ws.pins g below).word in omega arith;
               once = let a = (ws.pins g below).once in omega arith;
               low = λ _. let a = (ws.pins g below).low (omega arith) in let b = a.0 in (omega arith, total_same (live g) s.views id v w at refl ∙ a.1);
             })
-            (λ ne. pins_same f k s.views id v w at s.number p' h (s.pins h) (pins' h) (ws.pins h l) (omega arith)
+            (λ ne. pins_same f k s.views id v w at s.number s'.number h (s.pins h) (s'.pins h) (ws.pins h l) (omega arith)
             (there h ne) refl (times_else h g v.strays ne) refl)),
         (let q = up.shuts g in (omega arith, omega arith)),
       ))
@@ -137,31 +137,31 @@ module _ (f : File) (k : Opening) (s : State) (id i : ℕ) (v : View) (r : Ruled
         right = old.right;
         build = old.build;
         pins = old.pins;
-        inside = idle_inside f name' w.inside w.hold w.work w.last w.build w.own idle mine.inside.getting;
+        inside = idle_inside f s'.name w.inside w.hold w.work w.last w.build w.own idle mine.inside.getting;
       })
 
   -- unpin: the two slots are then `hold` and `work`
   pub unpins : (g y hold work : ℕ) → Free v → g < f.stages → ((h : ℕ) → live h v ≡ on h hold work + bit (g + 1) (h + 1))
-      → ButPins s g p' r' pins' name' home' → s.pins g ≡ pins' g + 1
-      → Ruled f k (After f k s id v (counted i y (record v { hold = hold; work = work })) p' r' pins' name' home')
+      → ButPins s g s' → s.pins g ≡ s'.pins g + 1
+      → Ruled f k (After f k s id v (counted i y (record v { hold = hold; work = work })) s')
   unpins g y hold work free below slots but here = let there = but.pins in let ep = but.number in
       let w : View = counted i y (record v { hold = hold; work = work }) in let vs' : List View = set s.views id w in
       let mine = r.each id v at in let ws = r.words in let c = total_same (closings g) s.views id v w at refl in
       let idle : Idle v = omega arith in let b = bit_is (g + 1) (g + 1) refl in let one = slots g in let alive = total_at (live g) s.views id v at in
       let open_now : (tally k s.views).shuts g ≡ 0 = dite (ℕ_discrete ((tally k s.views).shuts g) 0) (λ e. e)
       (λ ne. let a = ((ws.pins g below).low (omega arith)).1 in absurd (omega arith)) in
-      gated f k s id v w p' r' pins' name' home' silence refl r at ep but.names but.homes refl refl refl refl
+      gated f k s id v w s' silence refl r at ep but.names but.homes refl refl refl refl
       (λ up. (
         but.right ∙ (ws.right ∙ sym (total_same right_of s.views id v w at refl)),
         let o = ws.one in let er = but.right in omega arith,
         (λ h l. dite (ℕ_discrete h g)
-            (λ e. subst (λ z. PinsAre p' z (pins' z) ((tally k vs').shuts z) (total (live z) vs') (total (pins z) vs')) (sym e)
+            (λ e. subst (λ z. PinsAre s'.number z (s'.pins z) ((tally k vs').shuts z) (total (live z) vs') (total (pins z) vs')) (sym e)
             record {
               word = let d = total_set (pins g) s.views id v w at in let a = (ws.pins g below).word in omega arith;
               once = omega arith;
               low = λ z. absurd (omega arith);
             })
-            (λ ne. pins_same f k s.views id v w at s.number p' h (s.pins h) (pins' h) (ws.pins h l) (omega arith) (there h ne) (let q = slots h in
+            (λ ne. pins_same f k s.views id v w at s.number s'.number h (s.pins h) (s'.pins h) (ws.pins h l) (omega arith) (there h ne) (let q = slots h in
             let z = bit_not (g + 1) (h + 1) (λ e. ne (omega arith)) in omega arith) refl refl)),
         tt,
       ))
@@ -172,27 +172,27 @@ module _ (f : File) (k : Opening) (s : State) (id i : ℕ) (v : View) (r : Ruled
         right = old.right;
         build = old.build;
         pins = λ h l. let q = slots h in mine.pins h (omega arith);
-        inside = idle_inside f name' w.inside w.hold w.work w.last w.build w.own idle (λ n e. absurd (omega arith));
+        inside = idle_inside f s'.name w.inside w.hold w.work w.last w.build w.own idle (λ n e. absurd (omega arith));
       })
 
   -- a close that met no pin
   pub closes_done : (g y : ℕ) → Idle v → g < f.stages → g + 1 < v.seen.number → s.pins g ≡ 0
-      → ButPins s g p' r' pins' name' home' → pins' g ≡ 9223372036854775808
-      → Ruled f k (After f k s id v (counted i y (closed_done g v)) p' r' pins' name' home')
+      → ButPins s g s' → s'.pins g ≡ 9223372036854775808
+      → Ruled f k (After f k s id v (counted i y (closed_done g v)) s')
   closes_done g y idle below saw none but here = let there = but.pins in let ep = but.number in let w : View = counted i y (closed_done g v) in
       let vs' : List View = set s.views id w in let mine = r.each id v at in let ws = r.words in
       let word = open_word f k s g r below (omega arith) in let open_now = word.0 in let zero_pins = word.1 in let seen_low = mine.seen.low in
       let c = total_set (closings g) s.views id v w at in let z = times_here g v.made.closings in
       let all = total_same (pins g) s.views id v w at refl in let alive = total_same (live g) s.views id v w at refl in
       let under = total_le (live g) (pins g) s.views (λ j u e. omega arith) in let now : (tally k vs').shuts g ≡ 1 = omega arith in
-      gated f k s id v w p' r' pins' name' home' (reply (answer.closed g)) refl r at ep but.names but.homes refl refl refl refl
+      gated f k s id v w s' (reply (answer.closed g)) refl r at ep but.names but.homes refl refl refl refl
       (λ up. (
         but.right ∙ (ws.right ∙ sym (total_same right_of s.views id v w at refl)),
         let o = ws.one in let er = but.right in omega arith,
         (λ h l. dite (ℕ_discrete h g)
-            (λ e. subst (λ z. PinsAre p' z (pins' z) ((tally k vs').shuts z) (total (live z) vs') (total (pins z) vs')) (sym e)
+            (λ e. subst (λ z. PinsAre s'.number z (s'.pins z) ((tally k vs').shuts z) (total (live z) vs') (total (pins z) vs')) (sym e)
             record { word = omega arith; once = omega arith; low = λ _. (omega arith, omega arith) })
-            (λ ne. pins_same f k s.views id v w at s.number p' h (s.pins h) (pins' h) (ws.pins h l) (omega arith)
+            (λ ne. pins_same f k s.views id v w at s.number s'.number h (s.pins h) (s'.pins h) (ws.pins h l) (omega arith)
             (there h ne) refl refl (times_else h g v.made.closings ne))),
         (omega arith, omega arith),
       ))
@@ -203,7 +203,7 @@ module _ (f : File) (k : Opening) (s : State) (id i : ℕ) (v : View) (r : Ruled
         right = old.right;
         build = old.build;
         pins = old.pins;
-        inside = idle_inside f name' w.inside w.hold w.work w.last w.build w.own idle mine.inside.getting;
+        inside = idle_inside f s'.name w.inside w.hold w.work w.last w.build w.own idle mine.inside.getting;
       })
 
 module _ (f : File) (k : Opening) (s : State) (id i : ℕ) (v : View) (r : Ruled f k s) (at : get_elem? s.views id ≡ some v) (active : Active v)

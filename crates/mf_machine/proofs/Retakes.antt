@@ -8,7 +8,7 @@ use Rattle.mf_machine.specs.declared.view.View.{View}
 use Rattle.mf_machine.specs.Actors.{PinHolds, NextHolds, Active, Free, live, IsNext, WorkHolds}
 use Rattle.mf_machine.specs.Answers as answer
 use Rattle.mf_machine.specs.Counts.{bit, times}
-use Rattle.mf_machine.specs.File.{File, Opening, State, Holds, Home, HasCell}
+use Rattle.mf_machine.specs.File.{File, Opening, State, Holds, HasCell}
 use Rattle.mf_machine.specs.File.Home.{away}
 use Rattle.mf_machine.specs.Ruled.{Ruled}
 use Rattle.mf_machine.specs.Steps as row
@@ -49,25 +49,25 @@ not_left f k s id n v r at inside may e = let left = (r.words.names n inside).le
     (λ t. let z = next_open f k s id t.0 v r at t.1 in let y = left t.0 t.1.3 t.2 in omega arith) may
 
 module _ (f : File) (k : Opening) (s : State) (id : ℕ) (v : View) (r : Ruled f k s) (at : get_elem? s.views id ≡ some v) (active : Active v)
-    (p' r' : ℕ) (pins' name' : ℕ → ℕ) (home' : ℕ → Home) where
+    (s' : State) where
   -- the name is still Lost, since a generation that holds it is open, and becomes Taken
   pub retakes : (n i y : ℕ) → Free v → n < f.names → WorkHolds f v.build v.last v.work n → 0 < times n v.build.lost
-      → ButName f s n p' r' pins' name' home' → name' n ≡ 2 → home' n ≡ away
-      → Ruled f k (After f k s id v (counted i y (row.retaking n v)) p' r' pins' name' home')
+      → ButName f s n s' → s'.name n ≡ 2 → s'.home n ≡ away
+      → Ruled f k (After f k s id v (counted i y (row.retaking n v)) s')
   retakes n i y free inside work told but now out = let ep = but.number in let ename = but.names in let w : View = counted i y (row.retaking n v) in
       let mine = r.each id v at in let ws = r.words in let o = outside_of n v free in let o₂ = o.2 in let one = bit_is (n + 1) (n + 1) refl in
       let z : v.inside.retaking ≡ 0 = omega arith in let has = work.0 in let open_now = work_open f k s id n v r at work in
       let lost : 4 ≤ s.name n = ⊎_elim (λ l. l) (λ q. ⊎_elim (λ e. let t = (ws.names n inside).left e open_now.0 open_now.1 open_now.2 in
       let z = open_now.3 in absurd (omega arith)) (λ e. absurd (omega arith)) q) (mine.build.lost has n told) in
-      let on : Onward s.name name' = onward_at s.name name' n ename (λ z. absurd (omega arith)) (λ z. absurd (omega arith)) in
-      let ends : Ends f (tally k s.views) s.name name' = ends_at s.name name' n ename f (tally k s.views)
+      let on : Onward s.name s'.name = onward_at s.name s'.name n ename (λ z. absurd (omega arith)) (λ z. absurd (omega arith)) in
+      let ends : Ends f (tally k s.views) s.name s'.name = ends_at s.name s'.name n ename f (tally k s.views)
       (λ shut _. let t = shut open_now.0 open_now.1 open_now.2 in let z = open_now.3 in absurd (omega arith)) in
-      named f k s id v w p' r' pins' name' home' n silence refl r at refl but
+      named f k s id v w s' n silence refl r at refl but
       (λ m ne. record { counts = ap (λ z. record (parts m v) { in_retake = z }) (turn_else m n v.inside.retaking ne z); lost_by = λ l. refl })
       (adds_by silence v w refl (λ m. let b = bit_not v.inside.retaking (m + 1) (λ e. omega arith) in omega arith) (λ m. omega arith))
       (λ mv up. let m₀ = mv.in_get in let m₁ = mv.in_birth in let m₂ = mv.in_retake in let m₃ = mv.in_lose in let m₄ = mv.in_drop in
       let m₅ = mv.puts in let m₆ = mv.loses in let m₇ = mv.restores in let m₈ = mv.drops in
-      word.lost_away f k n (s.name n) (name' n) (s.home n) (home' n)
+      word.lost_away f k n (s.name n) (s'.name n) (s.home n) (s'.home n)
       (counts n s.views) (counts n (set s.views id w)) ((tally k s.views).lost_by n) ((tally k (set s.views id w)).lost_by n)
       (tally k s.views).shuts (tally k (set s.views id w)).shuts (ws.names n inside) lost now out (omega arith) (omega arith) (omega arith) (omega arith)
       (omega arith))
@@ -76,7 +76,7 @@ module _ (f : File) (k : Opening) (s : State) (id : ℕ) (v : View) (r : Ruled f
         active = active;
         strays = mine.strays;
         last = mine.last;
-        right = right_on f k s.number p' s.name name' (tally k s.views) (tally k (set s.views id w)) v.build v.last v.own.begun mine.right (λ _. ep);
+        right = right_on f k s.number s'.number s.name s'.name (tally k s.views) (tally k (set s.views id w)) v.build v.last v.own.begun mine.right (λ _. ep);
         build = record {
           unborn = λ h m l. dite (ℕ_discrete m n) (λ e. absurd (⊎_elim (λ q. let y = ap s.name e in omega arith) (λ q. omega arith)
               (mine.build.unborn h m l))) (λ ne. ⊎_elim (λ e. inl (ename m ne ∙ e)) (λ e. inr e) (mine.build.unborn h m l));
@@ -96,14 +96,14 @@ module _ (f : File) (k : Opening) (s : State) (id : ℕ) (v : View) (r : Ruled f
       }
 
   -- the name is Here again
-  pub is_restored : (n : ℕ) → v.inside.retaking ≡ n + 1 → ButName f s n p' r' pins' name' home' → name' n ≡ 1 → HasCell f n (home' n)
-      → Ruled f k (After f k s id v (row.restored n v) p' r' pins' name' home')
+  pub is_restored : (n : ℕ) → v.inside.retaking ≡ n + 1 → ButName f s n s' → s'.name n ≡ 1 → HasCell f n (s'.home n)
+      → Ruled f k (After f k s id v (row.restored n v) s')
   is_restored n has_it but now full = let w : View = row.restored n v in let mine = r.each id v at in let ws = r.words in
-      let alive : name' n ≢ 0 = λ z. omega arith in let inside = (mine.inside.retaking n has_it).0 in
+      let alive : s'.name n ≢ 0 = λ z. omega arith in let inside = (mine.inside.retaking n has_it).0 in
       let more = times_here n v.made.changes.restored in let one = bit_is v.inside.retaking (n + 1) has_it in
       let none : bit 0 (n + 1) ≡ 0 = bit_not 0 (n + 1) (λ e. omega arith) in let there = total_at (in_retake n) s.views id v at in
       let taken : s.name n ≡ 2 = (let t = (ws.names n inside).taken in bit_eq (s.name n) 2 (omega arith)) in
-      renamed f k s id v w p' r' pins' name' home' n (reply (answer.restored n)) refl r at refl but (omega arith, omega arith) alive
+      renamed f k s id v w s' n (reply (answer.restored n)) refl r at refl but (omega arith, omega arith) alive
       (λ m ne. record {
         counts = λ j. record (parts m v) { in_retake = back_else m n v.inside.retaking ne has_it j; restores = times_else m n v.made.changes.restored ne j };
         lost_by = λ l. refl;
@@ -113,7 +113,7 @@ module _ (f : File) (k : Opening) (s : State) (id : ℕ) (v : View) (r : Ruled f
       (λ ne. let a = times_else m n v.made.changes.restored ne in let b = back_else m n v.inside.retaking ne has_it in omega arith)) (λ m. omega arith))
       (λ mv up. let m₀ = mv.in_get in let m₁ = mv.in_birth in let m₂ = mv.in_retake in let m₃ = mv.in_lose in let m₄ = mv.in_drop in
       let m₅ = mv.puts in let m₆ = mv.loses in let m₇ = mv.restores in let m₈ = mv.drops in
-      word.shown_here f k n (s.name n) (name' n) (s.home n) (home' n)
+      word.shown_here f k n (s.name n) (s'.name n) (s.home n) (s'.home n)
       (counts n s.views) (counts n (set s.views id w)) ((tally k s.views).lost_by n) ((tally k (set s.views id w)).lost_by n)
       (tally k s.views).shuts (tally k (set s.views id w)).shuts (ws.names n inside) taken now full (omega arith)
       (omega arith) (omega arith) (omega arith) (omega arith))
@@ -127,7 +127,7 @@ module _ (f : File) (k : Opening) (s : State) (id : ℕ) (v : View) (r : Ruled f
           unborn = old.build.unborn;
           lost = λ h m l. let q = without_from m n v.build.lost l in ⊎_elim (λ e. inl e) (λ t. inr (⊎_elim (λ e. inl e)
               (λ e. absurd (q.0 (omega arith))) t)) (old.build.lost h m q.1);
-          settled = more_born name' n v.build.settled alive old.build.settled;
+          settled = more_born s'.name n v.build.settled alive old.build.settled;
         };
         pins = old.pins;
         inside = record {

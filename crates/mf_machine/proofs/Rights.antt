@@ -6,7 +6,7 @@ use Rattle.mf_machine.specs.declared.view.View.{View}
 use Rattle.mf_machine.specs.Actors.{Active, Idle}
 use Rattle.mf_machine.specs.Answers as answer
 use Rattle.mf_machine.specs.Counts.{total}
-use Rattle.mf_machine.specs.File.{File, Opening, State, Home}
+use Rattle.mf_machine.specs.File.{File, Opening, State}
 use Rattle.mf_machine.specs.Ruled.{Ruled}
 use Rattle.mf_machine.specs.Steps.{begun, refused, ended}
 use Rattle.mf_machine.specs.Sums.{right_of, begun_of}
@@ -18,16 +18,16 @@ use Rattle.mf_machine.proofs.Steps.{ButRight, After, pins_same, part_same, calm,
 
 module _ (f : File) (k : Opening) (s : State) (id i : ℕ) (v : View) (r : Ruled f k s) (at : get_elem? s.views id ≡ some v) (active : Active v)
     (idle : Idle v) where
-  module _ (p' r' : ℕ) (pins' name' : ℕ → ℕ) (home' : ℕ → Home) where
+  module _ (s' : State) where
     -- a begin that met a free right
-    pub begins : (y : ℕ) → v.build.right ≡ 0 → s.right ≡ 0 → r' ≡ 1 → ButRight s p' pins' name' home'
-        → Ruled f k (After f k s id v (counted i y (begun v)) p' r' pins' name' home')
+    pub begins : (y : ℕ) → v.build.right ≡ 0 → s.right ≡ 0 → s'.right ≡ 1 → ButRight s s'
+        → Ruled f k (After f k s id v (counted i y (begun v)) s')
     begins y not free er but = let ep = but.number in let epins = but.pins in let w : View = counted i y (begun v) in let ws = r.words in
-        gated f k s id v w p' r' pins' name' home' (reply answer.begun) refl r at ep but.names but.homes refl refl refl refl
+        gated f k s id v w s' (reply answer.begun) refl r at ep but.names but.homes refl refl refl refl
         (λ g. (
           let c = total_set right_of s.views id v w at in let d = ws.right in omega arith,
           omega arith,
-          (λ g l. pins_same f k s.views id v w at s.number p' g (s.pins g) (pins' g) (ws.pins g l) (omega arith) (epins g) refl refl refl),
+          (λ g l. pins_same f k s.views id v w at s.number s'.number g (s.pins g) (s'.pins g) (ws.pins g l) (omega arith) (epins g) refl refl refl),
           (tt, tt),
         ))
         (λ old. record {
@@ -37,18 +37,18 @@ module _ (f : File) (k : Opening) (s : State) (id i : ℕ) (v : View) (r : Ruled
           right = record { bit = omega arith; current = λ _ z. absurd (omega arith); has = λ _. omega arith };
           build = record { unborn = λ _ n h. absurd (omega arith); lost = λ _ n h. absurd (omega arith); settled = λ n h. absurd (omega arith) };
           pins = old.pins;
-          inside = idle_inside f name' w.inside w.hold w.work w.last w.build w.own idle old.inside.getting;
+          inside = idle_inside f s'.name w.inside w.hold w.work w.last w.build w.own idle old.inside.getting;
         })
 
     -- end
-    pub ends_right : (y : ℕ) → v.build.right ≡ 1 → r' ≡ 0 → ButRight s p' pins' name' home'
-        → Ruled f k (After f k s id v (counted i y (ended v)) p' r' pins' name' home')
+    pub ends_right : (y : ℕ) → v.build.right ≡ 1 → s'.right ≡ 0 → ButRight s s'
+        → Ruled f k (After f k s id v (counted i y (ended v)) s')
     ends_right y has er but = let ep = but.number in let epins = but.pins in let w : View = counted i y (ended v) in let ws = r.words in
-        gated f k s id v w p' r' pins' name' home' silence refl r at ep but.names but.homes refl refl refl refl
+        gated f k s id v w s' silence refl r at ep but.names but.homes refl refl refl refl
         (λ g. (
           let c = total_set right_of s.views id v w at in let d = ws.right in let o = ws.one in omega arith,
           omega arith,
-          (λ g l. pins_same f k s.views id v w at s.number p' g (s.pins g) (pins' g) (ws.pins g l) (omega arith) (epins g) refl refl refl),
+          (λ g l. pins_same f k s.views id v w at s.number s'.number g (s.pins g) (s'.pins g) (ws.pins g l) (omega arith) (epins g) refl refl refl),
           tt,
         ))
         (λ old. record {
@@ -58,7 +58,7 @@ module _ (f : File) (k : Opening) (s : State) (id i : ℕ) (v : View) (r : Ruled
           right = record { bit = omega arith; current = λ z _. absurd (omega arith); has = λ z. absurd (omega arith) };
           build = record { unborn = λ z. absurd (omega arith); lost = λ z. absurd (omega arith); settled = old.build.settled };
           pins = old.pins;
-          inside = idle_inside f name' w.inside w.hold w.work w.last w.build w.own idle old.inside.getting;
+          inside = idle_inside f s'.name w.inside w.hold w.work w.last w.build w.own idle old.inside.getting;
         })
 
   -- a begin that met a held right: the holder has a begin answered true

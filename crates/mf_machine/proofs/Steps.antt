@@ -153,34 +153,34 @@ abbrev pub gate : View → Gate
 gate v = record { right = v.build.right; share = v.share; strays = v.strays; hold = v.hold; work = v.work; numbers = v.made.numbers; closings = v.made.closings }
 
 -- a step on the pins of g leaves all else
-pub record ButPins (s : State) (g p' r' : ℕ) (pins' name' : ℕ → ℕ) (home' : ℕ → Home) : Type 0 where
-  pub number : p' ≡ s.number
-  pub right : r' ≡ s.right
-  pub pins : (h : ℕ) → h ≢ g → pins' h ≡ s.pins h
-  pub names : (n : ℕ) → name' n ≡ s.name n
-  pub homes : (n : ℕ) → home' n ≡ s.home n
+pub record ButPins (s : State) (g : ℕ) (s' : State) : Type 0 where
+  pub number : s'.number ≡ s.number
+  pub right : s'.right ≡ s.right
+  pub pins : (h : ℕ) → h ≢ g → s'.pins h ≡ s.pins h
+  pub names : (n : ℕ) → s'.name n ≡ s.name n
+  pub homes : (n : ℕ) → s'.home n ≡ s.home n
 
 -- a step on the right leaves all else
-pub record ButRight (s : State) (p' : ℕ) (pins' name' : ℕ → ℕ) (home' : ℕ → Home) : Type 0 where
-  pub number : p' ≡ s.number
-  pub pins : (g : ℕ) → pins' g ≡ s.pins g
-  pub names : (n : ℕ) → name' n ≡ s.name n
-  pub homes : (n : ℕ) → home' n ≡ s.home n
+pub record ButRight (s s' : State) : Type 0 where
+  pub number : s'.number ≡ s.number
+  pub pins : (g : ℕ) → s'.pins g ≡ s.pins g
+  pub names : (n : ℕ) → s'.name n ≡ s.name n
+  pub homes : (n : ℕ) → s'.home n ≡ s.home n
 
 -- a step on the number leaves all else
-pub record ButNumber (s : State) (r' : ℕ) (pins' name' : ℕ → ℕ) (home' : ℕ → Home) : Type 0 where
-  pub right : r' ≡ s.right
-  pub pins : (g : ℕ) → pins' g ≡ s.pins g
-  pub names : (n : ℕ) → name' n ≡ s.name n
-  pub homes : (n : ℕ) → home' n ≡ s.home n
+pub record ButNumber (s s' : State) : Type 0 where
+  pub right : s'.right ≡ s.right
+  pub pins : (g : ℕ) → s'.pins g ≡ s.pins g
+  pub names : (n : ℕ) → s'.name n ≡ s.name n
+  pub homes : (n : ℕ) → s'.home n ≡ s.home n
 
 -- a step on the name n leaves all else
-pub record ButName (f : File) (s : State) (n p' r' : ℕ) (pins' name' : ℕ → ℕ) (home' : ℕ → Home) : Type 0 where
-  pub number : p' ≡ s.number
-  pub right : r' ≡ s.right
-  pub pins : (g : ℕ) → g < f.stages → pins' g ≡ s.pins g
-  pub names : (m : ℕ) → m ≢ n → name' m ≡ s.name m
-  pub homes : (m : ℕ) → m ≢ n → home' m ≡ s.home m
+pub record ButName (f : File) (s : State) (n : ℕ) (s' : State) : Type 0 where
+  pub number : s'.number ≡ s.number
+  pub right : s'.right ≡ s.right
+  pub pins : (g : ℕ) → g < f.stages → s'.pins g ≡ s.pins g
+  pub names : (m : ℕ) → m ≢ n → s'.name m ≡ s.name m
+  pub homes : (m : ℕ) → m ≢ n → s'.home m ≡ s.home m
 
 pub pins_eq : (p p' g x x' sh sh' al al' all all' : ℕ) → PinsAre p g x sh al all → p ≤ p' → x' ≡ x → sh' ≡ sh → al' ≡ al → all' ≡ all
     → PinsAre p' g x' sh' al' all'
@@ -251,44 +251,44 @@ module _ (f : File) (k : Opening) (vs : List View) (id : ℕ) (v w : View) (at :
   pub live_same : (g : ℕ) → gate w ≡ gate v → live g w ≡ live g v
   live_same g a = ap (λ (z : Gate). on g z.hold z.work) a
 
-module _ (f : File) (k : Opening) (s : State) (id : ℕ) (v w : View) (p' r' : ℕ) (pins' name' : ℕ → ℕ) (home' : ℕ → Home) where
+module _ (f : File) (k : Opening) (s : State) (id : ℕ) (v w : View) (s' : State) where
   abbrev pub After : State
-  After = record { number = p'; right = r'; pins = pins'; name = name'; home = home'; views = set s.views id w }
+  After = record s' { views = set s.views id w }
 
   -- the words after a step on names: what the gate's words show stays
-  pub names_move : Words f k s → get_elem? s.views id ≡ some v → gate w ≡ gate v → p' ≡ s.number → r' ≡ s.right → ((g : ℕ) → g < f.stages
-      → pins' g ≡ s.pins g) → Onward s.name name'
-      → ((n : ℕ) → n < f.names → NameIs f k n (name' n) (home' n) (counts n (set s.views id w)) ((tally k (set s.views id w)).lost_by n)
+  pub names_move : Words f k s → get_elem? s.views id ≡ some v → gate w ≡ gate v → s'.number ≡ s.number → s'.right ≡ s.right → ((g : ℕ) → g < f.stages
+      → s'.pins g ≡ s.pins g) → Onward s.name s'.name
+      → ((n : ℕ) → n < f.names → NameIs f k n (s'.name n) (s'.home n) (counts n (set s.views id w)) ((tally k (set s.views id w)).lost_by n)
       (tally k (set s.views id w)).shuts) → Words f k After
   names_move ws at a number right pin on names = record {
-    number = number_same f k s.views id v w at s.number p' ws.number number (ap (λ (z : Gate). z.numbers) a);
+    number = number_same f k s.views id v w at s.number s'.number ws.number number (ap (λ (z : Gate). z.numbers) a);
     right = right ∙ (ws.right ∙ sym (total_same right_of s.views id v w at (ap (λ (z : Gate). z.right) a)));
     one = let o = ws.one in omega arith;
     shares = let c = total_same share_of s.views id v w at (ap (λ (z : Gate). z.share) a) in let d = ws.shares in omega arith;
-    pins = λ g l. pins_same f k s.views id v w at s.number p' g (s.pins g) (pins' g) (ws.pins g l) (omega arith) (pin g l)
+    pins = λ g l. pins_same f k s.views id v w at s.number s'.number g (s.pins g) (s'.pins g) (ws.pins g l) (omega arith) (pin g l)
         (live_same f k s.views id v w at g a) (ap (λ (z : Gate). times g z.strays) a) (ap (λ (z : Gate). times g z.closings) a);
     names = names;
     born = λ g l h n i q e. let c = total_same (publishings (g + 1)) s.views id v w at (ap (λ (z : Gate). times (g + 1) z.numbers) a) in ws.born g l (omega arith) n i q (on.born n e);
   }
 
   -- the names after a step that touches none
-  pub names_part : Words f k s → get_elem? s.views id ≡ some v → ((n : ℕ) → Part n v w) → ((n : ℕ) → name' n ≡ s.name n) → ((n : ℕ) → home' n ≡ s.home n)
+  pub names_part : Words f k s → get_elem? s.views id ≡ some v → ((n : ℕ) → Part n v w) → ((n : ℕ) → s'.name n ≡ s.name n) → ((n : ℕ) → s'.home n ≡ s.home n)
       → ((g : ℕ) → closings g v ≤ closings g w)
-      → (n : ℕ) → n < f.names → NameIs f k n (name' n) (home' n) (counts n (set s.views id w)) ((tally k (set s.views id w)).lost_by n)
+      → (n : ℕ) → n < f.names → NameIs f k n (s'.name n) (s'.home n) (counts n (set s.views id w)) ((tally k (set s.views id w)).lost_by n)
       (tally k (set s.views id w)).shuts
-  names_part ws at part name home up n l = name_else f k s.views id v w at n (s.name n) (name' n) (s.home n) (home' n)
+  names_part ws at part name home up n l = name_else f k s.views id v w at n (s.name n) (s'.name n) (s.home n) (s'.home n)
       (tally k s.views).shuts (tally k (set s.views id w)).shuts (ws.names n l) (part n) (name n) (home n)
       (λ g. let t = total_grows (closings g) s.views id v w at (up g) in omega arith)
 
   pub names_calm : Words f k s → get_elem? s.views id ≡ some v → w.made.changes ≡ v.made.changes → w.inside ≡ v.inside → ((n : ℕ)
-      → name' n ≡ s.name n) → ((n : ℕ) → home' n ≡ s.home n) → ((g : ℕ) → closings g v ≤ closings g w)
-      → (n : ℕ) → n < f.names → NameIs f k n (name' n) (home' n) (counts n (set s.views id w)) ((tally k (set s.views id w)).lost_by n)
+      → s'.name n ≡ s.name n) → ((n : ℕ) → s'.home n ≡ s.home n) → ((g : ℕ) → closings g v ≤ closings g w)
+      → (n : ℕ) → n < f.names → NameIs f k n (s'.name n) (s'.home n) (counts n (set s.views id w)) ((tally k (set s.views id w)).lost_by n)
       (tally k (set s.views id w)).shuts
   names_calm ws at c i name home up = names_part ws at (λ n. part_same n v w c i) name home up
 
   -- which generations were born
-  pub born_calm : Words f k s → get_elem? s.views id ≡ some v → w.made.numbers ≡ v.made.numbers → Onward s.name name' → (g : ℕ) → g < f.stages
-      → 0 < (tally k (set s.views id w)).heard (g + 1) → (n : ℕ) → n < f.names → Holds f g n → name' n ≢ 0
+  pub born_calm : Words f k s → get_elem? s.views id ≡ some v → w.made.numbers ≡ v.made.numbers → Onward s.name s'.name → (g : ℕ) → g < f.stages
+      → 0 < (tally k (set s.views id w)).heard (g + 1) → (n : ℕ) → n < f.names → Holds f g n → s'.name n ≢ 0
   born_calm ws at same on g l h n i q e = let c = total_same (publishings (g + 1)) s.views id v w at (ap (times (g + 1)) same) in ws.born g l (omega arith) n i q (on.born n e)
 
   -- what is known of the actor beside its Met and Seen
@@ -296,22 +296,22 @@ module _ (f : File) (k : Opening) (s : State) (id : ℕ) (v w : View) (p' r' : �
     pub active : 0 < w.share
     pub strays : StraysKnow w.share w.strays w.seen.shut
     pub last : LastIs w.last w.seen.number w.own.numbers
-    pub right : RightIs p' w.build w.last w.own.begun
-    pub build : BuildIs name' w.build w.inside
+    pub right : RightIs s'.number w.build w.last w.own.begun
+    pub build : BuildIs s'.name w.build w.inside
     pub pins : PinsKnow f w.hold w.work w.own
-    pub inside : InsideIs f name' w.inside w.hold w.work w.last w.build w.own
+    pub inside : InsideIs f s'.name w.inside w.hold w.work w.last w.build w.own
 
   -- the rule after a step: the words, what its tale tells, and the actor's own facts, are enough
-  pub stepped : (t : Tale) → known w ≡ tell t (known v) → Ruled f k s → get_elem? s.views id ≡ some v → Words f k After → s.number ≤ p'
-      → ((j : ℕ) (u : View) → j ≢ id → get_elem? s.views j ≡ some u → u.build.right ≡ 1 → (p' ≡ s.number) × Builds s.name name')
-      → Adds v w → Onward s.name name' → Ends f (tally k s.views) s.name name'
-      → Says f k s.number p' s.name name' (tally k s.views) (tally k (set s.views id w)) t v.own → Mine → Ruled f k After
+  pub stepped : (t : Tale) → known w ≡ tell t (known v) → Ruled f k s → get_elem? s.views id ≡ some v → Words f k After → s.number ≤ s'.number
+      → ((j : ℕ) (u : View) → j ≢ id → get_elem? s.views j ≡ some u → u.build.right ≡ 1 → (s'.number ≡ s.number) × Builds s.name s'.name)
+      → Adds v w → Onward s.name s'.name → Ends f (tally k s.views) s.name s'.name
+      → Says f k s.number s'.number s.name s'.name (tally k s.views) (tally k (set s.views id w)) t v.own → Mine → Ruled f k After
   stepped t told r at words up others adds on ends says m = let a : Tally = tally k s.views in let a' : Tally = tally k (set s.views id w) in
       let g = grows f k s.views id v w at adds in let old = r.each id v at in
       let gone = ap (λ (z : Known). z.gone) told ∙ gone_left t (known v) in let b₀ = total_set begun_of s.views id v w at in let b₁ = ap all_begun gone in
       let b₂ = ap (λ (z : Known). z.own.begun) told in
-      let q = subst (KnownIs f k s.number p' s.name name' a a') (sym told)
-      (told_is f k s.number p' s.name name' a a' t v old.seen old.own old.gone up g on (omega arith)
+      let q = subst (KnownIs f k s.number s'.number s.name s'.name a a') (sym told)
+      (told_is f k s.number s'.number s.name s'.name a a' t v old.seen old.own old.gone up g on (omega arith)
       (λ h. let o₀ = total_set (opened_of h) s.views id v w at in let o₁ = ap (all_opened h) gone in let o₂ = ap (λ (z : Known). times h z.own.opened) told in
       omega arith) says) in
       record {
@@ -328,7 +328,7 @@ module _ (f : File) (k : Opening) (s : State) (id : ℕ) (v w : View) (p' r' : �
           own = q.1;
           gone = q.2;
         })
-            (λ (t : (j ≢ id) × (get_elem? s.views j ≡ some u)). sits_on f k s.number p' s.name name' a a' u (r.each j u t.1) up (λ h. (others j u t.0 t.1 h).0)
+            (λ (t : (j ≢ id) × (get_elem? s.views j ≡ some u)). sits_on f k s.number s'.number s.name s'.name a a' u (r.each j u t.1) up (λ h. (others j u t.0 t.1 h).0)
             g on (λ h. (others j u t.0 t.1 h).1) ends)
             (at_set s.views id j w u e);
       }
@@ -338,37 +338,37 @@ pub calm : (f : File) (k : Opening) (s : State) (id : ℕ) (v w : View) (t : Tal
     → gate w ≡ gate v → ((n : ℕ) → Part n v w)
     → (Adds v w → Grows (tally k s.views) (tally k (set s.views id w))
     → Says f k s.number s.number s.name s.name (tally k s.views) (tally k (set s.views id w)) t v.own)
-    → (Grows (tally k s.views) (tally k (set s.views id w)) → Mine f k s id v w s.number s.right s.pins s.name s.home)
+    → (Grows (tally k s.views) (tally k (set s.views id w)) → Mine f k s id v w s)
     → Ruled f k (record s { views = set s.views id w })
 calm f k s id v w t told r at g part says mine = let ws = r.words in
     let add : Adds v w = adds_by t v w told (λ n. let e = ap (λ (z : Counts). z.puts + z.restores + z.in_birth + z.in_retake) (part n).counts in omega arith)
     (λ n. let e = ap (λ (z : Counts). z.loses + z.drops + z.in_lose + z.in_drop) (part n).counts in omega arith) in
     let up = grows f k s.views id v w at add in
-    stepped f k s id v w s.number s.right s.pins s.name s.home t told r at
-    (names_move f k s id v w s.number s.right s.pins s.name s.home ws at g refl refl (λ g l. refl) (onward_same s.name)
-    (names_part f k s id v w s.number s.right s.pins s.name s.home ws at part (λ n. refl) (λ n. refl) (λ h. let e = ap (λ (z : Gate). times h z.closings) g in omega arith)))
+    stepped f k s id v w s t told r at
+    (names_move f k s id v w s ws at g refl refl (λ g l. refl) (onward_same s.name)
+    (names_part f k s id v w s ws at part (λ n. refl) (λ n. refl) (λ h. let e = ap (λ (z : Gate). times h z.closings) g in omega arith)))
     (omega arith) (λ j u ne e h. (refl, builds_same s.name)) add (onward_same s.name) (ends_same f (tally k s.views) s.name) (says add up) (mine up)
 
 -- a step that leaves the number and all names
-pub gated : (f : File) (k : Opening) (s : State) (id : ℕ) (v w : View) (p' r' : ℕ) (pins' name' : ℕ → ℕ) (home' : ℕ → Home) (t : Tale)
-    → known w ≡ tell t (known v) → Ruled f k s → get_elem? s.views id ≡ some v → p' ≡ s.number → ((n : ℕ) → name' n ≡ s.name n) → ((n : ℕ) → home' n ≡ s.home n)
+pub gated : (f : File) (k : Opening) (s : State) (id : ℕ) (v w : View) (s' : State) (t : Tale)
+    → known w ≡ tell t (known v) → Ruled f k s → get_elem? s.views id ≡ some v → s'.number ≡ s.number → ((n : ℕ) → s'.name n ≡ s.name n) → ((n : ℕ) → s'.home n ≡ s.home n)
     → w.made.changes ≡ v.made.changes → w.made.numbers ≡ v.made.numbers → w.inside ≡ v.inside → w.share ≡ v.share
-    → (Grows (tally k s.views) (tally k (set s.views id w)) → (r' ≡ total right_of (set s.views id w)) × (r' ≤ 1) × ((g : ℕ) → g < f.stages
-    → PinsAre p' g (pins' g) ((tally k (set s.views id w)).shuts g) (total (live g) (set s.views id w)) (total (pins g) (set s.views id w)))
-    × Says f k s.number p' s.name name' (tally k s.views) (tally k (set s.views id w)) t v.own)
-    → (Sits f k p' name' (tally k (set s.views id w)) v → Mine f k s id v w p' r' pins' name' home')
-    → Ruled f k (After f k s id v w p' r' pins' name' home')
-gated f k s id v w p' r' pins' name' home' t told r at ep ename ehome changes numbers inside share gate mine = let ws = r.words in
+    → (Grows (tally k s.views) (tally k (set s.views id w)) → (s'.right ≡ total right_of (set s.views id w)) × (s'.right ≤ 1) × ((g : ℕ) → g < f.stages
+    → PinsAre s'.number g (s'.pins g) ((tally k (set s.views id w)).shuts g) (total (live g) (set s.views id w)) (total (pins g) (set s.views id w)))
+    × Says f k s.number s'.number s.name s'.name (tally k s.views) (tally k (set s.views id w)) t v.own)
+    → (Sits f k s'.number s'.name (tally k (set s.views id w)) v → Mine f k s id v w s')
+    → Ruled f k (After f k s id v w s')
+gated f k s id v w s' t told r at ep ename ehome changes numbers inside share gate mine = let ws = r.words in
     let add = adds_calm t v w told inside in let up = grows f k s.views id v w at add in let q = gate up in
-    let on = onward_eq s.name name' ename in let builds = builds_eq s.name name' ename in let ends = ends_eq f (tally k s.views) s.name name' ename in
-    stepped f k s id v w p' r' pins' name' home' t told r at record {
-      number = number_same f k s.views id v w at s.number p' ws.number ep numbers;
+    let on = onward_eq s.name s'.name ename in let builds = builds_eq s.name s'.name ename in let ends = ends_eq f (tally k s.views) s.name s'.name ename in
+    stepped f k s id v w s' t told r at record {
+      number = number_same f k s.views id v w at s.number s'.number ws.number ep numbers;
       right = q.0;
       one = q.1;
       shares = let c = total_same share_of s.views id v w at share in let d = ws.shares in omega arith;
       pins = q.2;
-      names = names_calm f k s id v w p' r' pins' name' home' ws at changes inside ename ehome add.closings;
-      born = born_calm f k s id v w p' r' pins' name' home' ws at numbers on;
+      names = names_calm f k s id v w s' ws at changes inside ename ehome add.closings;
+      born = born_calm f k s id v w s' ws at numbers on;
     }
     (omega arith) (λ j u ne e h. (ep, builds)) add on ends q.3
-    (mine (sits_on f k s.number p' s.name name' (tally k s.views) (tally k (set s.views id w)) v (r.each id v at) (omega arith) (λ _. ep) up on (λ _. builds) ends))
+    (mine (sits_on f k s.number s'.number s.name s'.name (tally k s.views) (tally k (set s.views id w)) v (r.each id v at) (omega arith) (λ _. ep) up on (λ _. builds) ends))

@@ -66,7 +66,7 @@ own_tells f w id d may n all = subst Tells (sym (tells f w id d)) (tells_on (tal
     (all id (actor w id) (mine f w id d may)))
 
 -- every list of moves keeps it so
-tells_after : (f : File) (w : World) (m : Move) → May f w m → Number f (read f w) → AllTell w → AllTell (after f w m)
+pub tells_after : (f : File) (w : World) (m : Move) → May f w m → Number f (read f w) → AllTell w → AllTell (after f w m)
 tells_after f w m may n all j z at = ⊎_elim (λ e. subst (λ v. Tells (known v)) e (own_tells f w m.who m.does may n all)) (λ t. ⊎_elim (λ a. all j z a)
     (λ q. subst (λ v. Tells (known v)) q.3 (tells_blank q.0 q.1 q.2)) t) (from_at f w m.who m.does may j z at)
 
@@ -76,7 +76,7 @@ tells_all f k rest w [] runs good all = all
 tells_all f k rest w (m ∷ ms) runs good all = tells_all f k rest (after f w m) ms runs.1 (one f k rest w m runs.0 good)
     (tells_after f w m runs.0 (rules.number f k (read f w) rest good.1) all)
 
-first_tells : (f : File) (k : Opening) (j : ℕ) (v : View) → get_elem? (first_view f k ∷ []) j ≡ some v → Tells (known v)
+pub first_tells : (f : File) (k : Opening) (j : ℕ) (v : View) → get_elem? (first_view f k ∷ []) j ≡ some v → Tells (known v)
 first_tells f k zero v e = subst (λ v. Tells (known v)) (some-injective (first_view f k) v e) (tells_blank (2 ^ 30) [] (first_seen f k))
 first_tells f k (suc j) v e = absurd (some-ne-none v (sym e))
 

@@ -219,40 +219,40 @@ names_at f k s id v w name' home' n ws at up names homes parts here m l = dite (
     (λ g. let t = total_grows (closings g) s.views id v w at (up g) in omega arith))
 
 -- a step on the name n
-pub named : (f : File) (k : Opening) (s : State) (id : ℕ) (v w : View) (p' r' : ℕ) (pins' name' : ℕ → ℕ) (home' : ℕ → Home) (n : ℕ) (t : Tale)
-    → known w ≡ tell t (known v) → Ruled f k s → get_elem? s.views id ≡ some v → gate w ≡ gate v → ButName f s n p' r' pins' name' home'
+pub named : (f : File) (k : Opening) (s : State) (id : ℕ) (v w : View) (s' : State) (n : ℕ) (t : Tale)
+    → known w ≡ tell t (known v) → Ruled f k s → get_elem? s.views id ≡ some v → gate w ≡ gate v → ButName f s n s'
     → ((m : ℕ) → m ≢ n → Part m v w) → Adds v w
     → (Moved (counts n s.views) (counts n (set s.views id w)) (parts n v) (parts n w) → Grows (tally k s.views) (tally k (set s.views id w))
-    → NameIs f k n (name' n) (home' n) (counts n (set s.views id w)) ((tally k (set s.views id w)).lost_by n) (tally k (set s.views id w)).shuts)
-    → ((j : ℕ) (u : View) → j ≢ id → get_elem? s.views j ≡ some u → u.build.right ≡ 1 → Builds s.name name')
-    → Onward s.name name' → Ends f (tally k s.views) s.name name'
+    → NameIs f k n (s'.name n) (s'.home n) (counts n (set s.views id w)) ((tally k (set s.views id w)).lost_by n) (tally k (set s.views id w)).shuts)
+    → ((j : ℕ) (u : View) → j ≢ id → get_elem? s.views j ≡ some u → u.build.right ≡ 1 → Builds s.name s'.name)
+    → Onward s.name s'.name → Ends f (tally k s.views) s.name s'.name
     → (Grows (tally k s.views) (tally k (set s.views id w))
-    → Says f k s.number p' s.name name' (tally k s.views) (tally k (set s.views id w)) t v.own)
-    → Mine f k s id v w p' r' pins' name' home' → Ruled f k (After f k s id v w p' r' pins' name' home')
-named f k s id v w p' r' pins' name' home' n t told r at g but part add name builds on ends says mine = let ep = but.number in
+    → Says f k s.number s'.number s.name s'.name (tally k s.views) (tally k (set s.views id w)) t v.own)
+    → Mine f k s id v w s' → Ruled f k (After f k s id v w s')
+named f k s id v w s' n t told r at g but part add name builds on ends says mine = let ep = but.number in
     let up = grows f k s.views id v w at add in
-    stepped f k s id v w p' r' pins' name' home' t told r at
-    (names_move f k s id v w p' r' pins' name' home' r.words at g but.number but.right but.pins on
-    (names_at f k s id v w name' home' n r.words at (λ h. let e = ap (λ (z : Gate). times h z.closings) g in omega arith) but.names but.homes part
+    stepped f k s id v w s' t told r at
+    (names_move f k s id v w s' r.words at g but.number but.right but.pins on
+    (names_at f k s id v w s'.name s'.home n r.words at (λ h. let e = ap (λ (z : Gate). times h z.closings) g in omega arith) but.names but.homes part
     (name (moved n s.views id v w at) up)))
     (omega arith) (λ j u ne e h. (ep, builds j u ne e h)) add on ends (says up) mine
 
 -- a step on a name that is Here or Taken, and that isn't Unborn then
-pub renamed : (f : File) (k : Opening) (s : State) (id : ℕ) (v w : View) (p' r' : ℕ) (pins' name' : ℕ → ℕ) (home' : ℕ → Home) (n : ℕ) (t : Tale)
-    → known w ≡ tell t (known v) → Ruled f k s → get_elem? s.views id ≡ some v → gate w ≡ gate v → ButName f s n p' r' pins' name' home'
-    → (0 < s.name n) × (s.name n < 3) → name' n ≢ 0 → ((m : ℕ) → m ≢ n → Part m v w) → Adds v w
+pub renamed : (f : File) (k : Opening) (s : State) (id : ℕ) (v w : View) (s' : State) (n : ℕ) (t : Tale)
+    → known w ≡ tell t (known v) → Ruled f k s → get_elem? s.views id ≡ some v → gate w ≡ gate v → ButName f s n s'
+    → (0 < s.name n) × (s.name n < 3) → s'.name n ≢ 0 → ((m : ℕ) → m ≢ n → Part m v w) → Adds v w
     → (Moved (counts n s.views) (counts n (set s.views id w)) (parts n v) (parts n w) → Grows (tally k s.views) (tally k (set s.views id w))
-    → NameIs f k n (name' n) (home' n) (counts n (set s.views id w)) ((tally k (set s.views id w)).lost_by n) (tally k (set s.views id w)).shuts)
+    → NameIs f k n (s'.name n) (s'.home n) (counts n (set s.views id w)) ((tally k (set s.views id w)).lost_by n) (tally k (set s.views id w)).shuts)
     → (Grows (tally k s.views) (tally k (set s.views id w))
-    → Says f k s.number p' s.name name' (tally k s.views) (tally k (set s.views id w)) t v.own)
-    → (Sits f k p' name' (tally k (set s.views id w)) v → Mine f k s id v w p' r' pins' name' home')
-    → Ruled f k (After f k s id v w p' r' pins' name' home')
-renamed f k s id v w p' r' pins' name' home' n t told r at g but was alive part add name says mine = let ep = but.number in let low = was.0 in let high = was.1 in
-    let on : Onward s.name name' = onward_at s.name name' n but.names (λ z. absurd (alive z)) (λ z. absurd (omega arith)) in
-    let builds : Builds s.name name' = builds_at s.name name' n but.names (λ z. absurd (omega arith)) (λ z. absurd (omega arith)) in
-    let ends : Ends f (tally k s.views) s.name name' = ends_at s.name name' n but.names f (tally k s.views) (λ _ z. absurd (omega arith)) in
-    named f k s id v w p' r' pins' name' home' n t told r at g but part add name (λ j u ne e h. builds) on ends says
-    (mine (sits_on f k s.number p' s.name name' (tally k s.views) (tally k (set s.views id w)) v (r.each id v at) (omega arith) (λ _. ep)
+    → Says f k s.number s'.number s.name s'.name (tally k s.views) (tally k (set s.views id w)) t v.own)
+    → (Sits f k s'.number s'.name (tally k (set s.views id w)) v → Mine f k s id v w s')
+    → Ruled f k (After f k s id v w s')
+renamed f k s id v w s' n t told r at g but was alive part add name says mine = let ep = but.number in let low = was.0 in let high = was.1 in
+    let on : Onward s.name s'.name = onward_at s.name s'.name n but.names (λ z. absurd (alive z)) (λ z. absurd (omega arith)) in
+    let builds : Builds s.name s'.name = builds_at s.name s'.name n but.names (λ z. absurd (omega arith)) (λ z. absurd (omega arith)) in
+    let ends : Ends f (tally k s.views) s.name s'.name = ends_at s.name s'.name n but.names f (tally k s.views) (λ _ z. absurd (omega arith)) in
+    named f k s id v w s' n t told r at g but part add name (λ j u ne e h. builds) on ends says
+    (mine (sits_on f k s.number s'.number s.name s'.name (tally k s.views) (tally k (set s.views id w)) v (r.each id v at) (omega arith) (λ _. ep)
     (grows f k s.views id v w at add) on (λ _. builds) ends))
 
 -- an actor that has no name Taken has none of these

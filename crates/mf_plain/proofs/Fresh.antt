@@ -7,7 +7,7 @@ use Rattle.mf_places.specs.Facts.{BookFacts, IsBook}
 use Rattle.mf_places.specs.Names.{count_of, name_at}
 use Rattle.mf_places.specs.Rows.{number_of}
 use Rattle.mf_places.proofs.Names.{IsNumber-at}
-use Rattle.mf_plain.specs.declared.plain.Told.{Told}
+use Rattle.mf_plain.specs.declared.known.Told.{Told}
 use Rattle.mf_vault.specs.declared.answers.Rest.{Rest}
 use Rattle.mf_vault.specs.declared.answers.Rest.TheVariants as rest
 use Rattle.mf_vault.specs.Resting.{word_of, home_of, opening_of}

@@ -1,4 +1,9 @@
 -- What the public calls promise.
 pub mod Resting
--- What the fields are.
+pub mod Alone
+pub mod Standing
+pub mod Whole
+-- What the fields are, and what a call makes of them.
 pub mod Kept
+pub mod Stored
+pub mod Found

@@ -1,6 +1,12 @@
-//! A file at rest.
+//! A file at rest, and the access of its only actor.
 #![tactic(auto)]
 
+mod access;
+mod answering;
+mod calls;
+mod fetch;
+mod known;
 mod plain;
 
+pub use access::PlainAccess;
 pub use plain::Plain;

@@ -1,19 +1,14 @@
 //! A file at rest.
-ghost use Rattle.std.specs.Prelude.{◌≡◌, ◌<◌, ℕ, List, length, slice_index_or, false, All, IfOk, OnErr};
+ghost use Rattle.std.specs.Prelude.{◌≡◌, ◌<◌, ℕ, List, length, false};
+ghost use Rattle.std.specs.Prelude.{slice_index_or, All, IfOk, OnErr};
 ghost use Rattle.mf_places.specs.Names.{HasName};
 ghost use Rattle.mf_places.specs.Rows.{number_of};
 ghost use Rattle.mf_vault.specs.declared.answers.Rest.TheVariants as rest;
 
-use mf_vault::{Book, LoseLine, Memory, Name, Note, Rest};
+use crate::known::Told;
+use mf_vault::{Book, Memory, Name, Note, Rest};
 use std::alloc::Global;
 use std::marker::Model;
-
-/// What contracts alone see of a file at rest: its bytes, and the lose lines that its names may show.
-/// No value of it is made.
-pub struct Told {
-    pub bytes: [u8; 0],
-    pub losses: [LoseLine; 0],
-}
 
 /// A file at rest: nobody has a pin, the building right or a chunk of it.
 #[derive(Drop)]
@@ -95,7 +90,8 @@ impl Plain {
         ensures state { IfOk result (λ r.
             r ≡ slice_index_or self.now.names (number_of self.now.book name) rest.Unborn) }
         ensures here { OnErr result ((c : List ℕ)
-            × (slice_index_or self.now.names (number_of self.now.book name) rest.Unborn ≡ rest.Here c)) }
+            × (slice_index_or self.now.names (number_of self.now.book name) rest.Unborn
+            ≡ rest.Here c)) }
     {
         let Some(n) = self.book.number(name) else {
             unreachable!()

@@ -4,6 +4,8 @@ use Rattle.mf_machine.specs.declared.answer.Slot.{Slot}
 use Rattle.mf_machine.specs.declared.view.View.{View}
 use Rattle.mf_machine.specs.Actors.{slot_of}
 use Rattle.mf_machine.specs.declared.answer.Closed.{Closed}
+use Rattle.mf_machine.specs.declared.answer.LoseStep.{LoseStep}
+use Rattle.mf_machine.specs.declared.answer.LoseStep.TheVariants as losing
 use Rattle.mf_machine.specs.declared.answer.State.{State}
 use Rattle.mf_machine.specs.declared.answer.State.TheVariants as state
 use Rattle.mf_machine.specs.File.Home.{keeps, empty}
@@ -11,7 +13,7 @@ use Rattle.mf_machine.specs.File.{name_word, removed}
 use Rattle.mf_machine.specs.Moves.{Move, by, run}
 use Rattle.mf_machine.specs.Moves as move
 use Rattle.mf_machine.specs.Steps as row
-use Rattle.mf_machine.specs.Steps.{begin_view, close_view, see_view, drop_answer, Drop}
+use Rattle.mf_machine.specs.Steps.{begin_view, close_view, see_view, drop_answer, lose_answer, Drop}
 use Rattle.mf_machine.specs.Words.{number_of, absent}
 use Rattle.mf_machine.specs.Worlds.{World, actor, word_of}
 use Rattle.mf_places.specs.declared.Name.{Name}
@@ -168,9 +170,10 @@ drop_moves n row.drops = by 0 (move.drop n) ∷ emptied ∷ by 0 (move.dropped n
 drop_moves n row.tries = by 0 (move.drop n) ∷ by 0 (move.drop_again n) ∷ []
 drop_moves n row.nothing = by 0 (move.drop n) ∷ []
 
-abbrev pub lose_moves : ℕ → ℕ → Bool → List Move
-lose_moves n l true = by 0 (move.lose n l) ∷ emptied ∷ by 0 (move.lost n l) ∷ []
-lose_moves n l false = by 0 (move.lose n l) ∷ []
+abbrev pub lose_moves : ℕ → ℕ → LoseStep → List Move
+lose_moves n l losing.Done = by 0 (move.lose n l) ∷ emptied ∷ by 0 (move.lost n l) ∷ []
+lose_moves n l losing.Nothing = by 0 (move.lose n l) ∷ []
+lose_moves n l losing.Again = by 0 (move.lose n l) ∷ []
 
 -- what a word of a name says
 abbrev pub word_at : Facts → World → Name → ℕ
@@ -189,7 +192,7 @@ moves f w (restore x) = by 0 (move.retake (number f x)) ∷ brought (cell_of f x
 moves f w (close g c) = by 0 (move.close g) ∷ []
 moves f w (discard x b) = drop_moves (number f x) (drop_answer (word_at f w x))
 moves f w (get x o) = get_moves (number f x) o
-moves f w (lose x l b) = lose_moves (number f x) l b
+moves f w (lose x l b) = lose_moves (number f x) l (lose_answer (word_at f w x))
 
 -- the whole state after a call
 abbrev pub onward : (World → World) → Option World → Option World

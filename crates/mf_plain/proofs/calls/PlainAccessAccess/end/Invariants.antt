@@ -1,0 +1,6 @@
+use Rattle.mf_vault.specs.Actor as call
+use Rattle.mf_plain.specs.Whole.{next}
+use Rattle.mf_plain.proofs.calls.PlainAccessAccess.end.Given as goal
+
+abbrev pub ghost-pick : goal.ghost-pick
+ghost-pick a = next call.end a.from.now

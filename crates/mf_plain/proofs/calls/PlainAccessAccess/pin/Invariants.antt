@@ -1,0 +1,7 @@
+use Rattle.std.proofs.Common.{[]}
+use Rattle.mf_vault.specs.Actor as call
+use Rattle.mf_plain.specs.Whole.{next}
+use Rattle.mf_plain.proofs.calls.PlainAccessAccess.pin.Given as goal
+
+abbrev pub ghost-pick : goal.ghost-pick
+ghost-pick a = next (call.pin a.from.now.0 [] a.from.now.1) a.from.now.2.now

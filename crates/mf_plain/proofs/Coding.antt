@@ -50,31 +50,39 @@ got_as s x got.Memory q = q
 
 -- a name's number, as the code has it
 at_number : (s : PlainAccess) (c : Call) (x : Name) (n : ℕ) (r r' : Rest) → n ≡ number_of s.book x → r ≡ r'
-    → Step s c (with_names s (set s.names.items (number_of s.book x) r')) → Step s c (with_names s (set s.names.items n r))
+    → Step s c (with_names s (set s.names.items (number_of s.book x) r'))
+    → Step s c (with_names s (set s.names.items n r))
 at_number s c x n r r' e is step = subst (λ i. Step s c (with_names s (set s.names.items i r))) (sym e)
     (subst (λ y. Step s c (with_names s (set s.names.items (number_of s.book x) y))) (sym is) step)
 
-pub puts : (s : PlainAccess) (x : Name) (bytes : List ℕ) (n : ℕ) → MayPut x (actor_of s) → bytes ≡ cell_of (facts_in s) x → n ≡ number_of s.book x
+pub puts : (s : PlainAccess) (x : Name) (bytes : List ℕ) (n : ℕ) → MayPut x (actor_of s)
+    → bytes ≡ cell_of (facts_in s) x → n ≡ number_of s.book x
     → Step s (call.put x) (with_names s (set s.names.items n (rest.Here bytes)))
-puts s x bytes n m is e = at_number s (call.put x) x n (rest.Here bytes) (rest.Here bytes) e refl (named.puts s.stands x bytes m is)
+puts s x bytes n m is e =
+    at_number s (call.put x) x n (rest.Here bytes) (rest.Here bytes) e refl (named.puts s.stands x bytes m is)
 
-pub restores : (s : PlainAccess) (x : Name) (bytes : List ℕ) (n : ℕ) → MayRestore x (actor_of s) → bytes ≡ cell_of (facts_in s) x
+pub restores : (s : PlainAccess) (x : Name) (bytes : List ℕ) (n : ℕ) → MayRestore x (actor_of s)
+    → bytes ≡ cell_of (facts_in s) x
     → n ≡ number_of s.book x → Step s (call.restore x) (with_names s (set s.names.items n (rest.Here bytes)))
-restores s x bytes n m is e = at_number s (call.restore x) x n (rest.Here bytes) (rest.Here bytes) e refl (named.restores s.stands x bytes m is)
+restores s x bytes n m is e =
+    at_number s (call.restore x) x n (rest.Here bytes) (rest.Here bytes) e refl (named.restores s.stands x bytes m is)
 
 -- what the code reads of a name
-read_is : (s : PlainAccess) (x : Name) (n : ℕ) (r : Rest) → (n ≡ number_of s.book x) → n < count_of s.book → r ≡ get_or s.names.items n r
+read_is : (s : PlainAccess) (x : Name) (n : ℕ) (r : Rest) → (n ≡ number_of s.book x) → n < count_of s.book
+    → r ≡ get_or s.names.items n r
     → rest_in s x ≡ r
 read_is s x n r e low at = sym (get_or_read s.names.items n r (let l = s.stands.names in omega arith) at rest.Unborn
     ∙ ap (λ i. get_or s.names.items i rest.Unborn) e)
 
-pub drops : (s : PlainAccess) (x : Name) (n : ℕ) (r r' : Rest) (a : Bool) → MayDiscard x (actor_of s) → n ≡ number_of s.book x → n < count_of s.book
+pub drops : (s : PlainAccess) (x : Name) (n : ℕ) (r r' : Rest) (a : Bool) → MayDiscard x (actor_of s)
+    → n ≡ number_of s.book x → n < count_of s.book
     → r ≡ get_or s.names.items n r → a ≡ was_dropped (row.drop_answer (resting.word_of r)) → r' ≡ dropped_of r
     → Step s (call.discard x a) (with_names s (set s.names.items n r'))
 drops s x n r r' a m e low at is new = at_number s (call.discard x a) x n r' (dropped_of r) e new
     (named.drops s.stands x r a (read_is s x n r e low at) m is)
 
-pub loses : (s : PlainAccess) (x : Name) (l n : ℕ) (r r' : Rest) (a : Bool) → MayLose x l (actor_of s) → n ≡ number_of s.book x → n < count_of s.book
+pub loses : (s : PlainAccess) (x : Name) (l n : ℕ) (r r' : Rest) (a : Bool) → MayLose x l (actor_of s)
+    → n ≡ number_of s.book x → n < count_of s.book
     → r ≡ get_or s.names.items n r → was_lost a ≡ row.lose_answer (resting.word_of r) → r' ≡ lost_of l r
     → Step s (call.lose x l a) (with_names s (set s.names.items n r'))
 loses s x l n r r' a m e low at is new = at_number s (call.lose x l a) x n r' (lost_of l r) e new
@@ -84,5 +92,6 @@ pub there : (s : PlainAccess) (x : Name) → MayGet x (actor_of s) → IsThereIn
 there s x m = named.there s.stands x (rest_in s x) refl m
 
 -- an entry, as the code makes it
-pub entered : (o : Op) (x : Name) (a a' : Answer) (es es' : List Entry) → es' ≡ es ++ entry.Chunk o x a ∷ [] → a ≡ a' → es' ≡ es ++ noted o x a'
+pub entered : (o : Op) (x : Name) (a a' : Answer) (es es' : List Entry) → es' ≡ es ++ entry.Chunk o x a ∷ [] → a ≡ a'
+    → es' ≡ es ++ noted o x a'
 entered o x a a' es es' e is = e ∙ ap (λ y. es ++ entry.Chunk o x y ∷ []) is

@@ -24,7 +24,7 @@ module _ (f : Facts) (s : Stored) (v : View) (h : ∥ Holding f (world s v) ∥�
   now = world s v
 
   -- numbers that the rule gives
-  known : (x y : ℕ) → (Holding f now → x ≤ y) → x ≤ y
+  pub known : (x y : ℕ) → (Holding f now → x ≤ y) → x ≤ y
   known x y fact = dite (dec_le x y) (λ l. l) (λ n. absurd (not_there h (λ r. n (fact r))))
 
   pub never : (Holding f now → ⊥) → ⊥
@@ -40,7 +40,8 @@ module _ (f : Facts) (s : Stored) (v : View) (h : ∥ Holding f (world s v) ∥�
   pub unshut_at : (g : ℕ) → s.number ≡ g + 1 → g < stages f → times g v.seen.shut ≡ 0
   unshut_at g e l = let z : times g v.seen.shut ≤ 0 = known (times g v.seen.shut) 0
       (λ r. dite (ℕ_discrete (times g v.seen.shut) 0) (λ y. omega arith) (λ n. let c =
-      tells.looked_beyond (file f) f.opening (read (file f) now) r.ruled 0 v refl g l (omega arith) in absurd (omega arith))) in omega arith
+      tells.looked_beyond (file f) f.opening (read (file f) now) r.ruled 0 v refl g l (omega arith) in
+      absurd (omega arith))) in omega arith
 
   pub open_at : (g : ℕ) → s.number ≡ g + 1 → g < stages f → word_of now (g + 2) ≤ 3221225472
   open_at g e l = known (word_of now (g + 2)) 3221225472 (λ r. let p = r.ruled.words.pins g l in let word = p.word in
@@ -56,11 +57,15 @@ module _ (f : Facts) (s : Stored) (v : View) (h : ∥ Holding f (world s v) ∥�
       (λ r. let e = (r.ruled.each 0 v refl).right.current a b in omega arith) in omega arith
 
   -- a name of a pinned generation
-  pub pinned_born : (n : ℕ) → n < (file f).names → PinHolds (file f) v.hold v.work n → word_of now (name_word (file f) n) ≢ 0
-  pinned_born n l pin e = never (λ r. tells.pinned_born (file f) f.opening (read (file f) now) r.ruled 0 n v refl l pin e)
+  pub pinned_born : (n : ℕ) → n < (file f).names → PinHolds (file f) v.hold v.work n
+      → word_of now (name_word (file f) n) ≢ 0
+  pinned_born n l pin e =
+      never (λ r. tells.pinned_born (file f) f.opening (read (file f) now) r.ruled 0 n v refl l pin e)
 
-  pub pinned_there : (n : ℕ) → n < (file f).names → PinHolds (file f) v.hold v.work n → word_of now (name_word (file f) n) ≢ 3
-  pinned_there n l pin e = never (λ r. tells.seen_there (file f) f.opening (read (file f) now) r.ruled 0 n v refl l (inl pin) e)
+  pub pinned_there : (n : ℕ) → n < (file f).names → PinHolds (file f) v.hold v.work n
+      → word_of now (name_word (file f) n) ≢ 3
+  pinned_there n l pin e =
+      never (λ r. tells.seen_there (file f) f.opening (read (file f) now) r.ruled 0 n v refl l (inl pin) e)
 
   -- Lost(line) is a lose line
   pub lost_line : (n l : ℕ) → n < (file f).names → word_of now (name_word (file f) n) ≡ 4 + l → IsLoseLine (file f) n l
@@ -71,11 +76,14 @@ module _ (f : Facts) (s : Stored) (v : View) (h : ∥ Holding f (world s v) ∥�
   equal : (x y : ℕ) → (Holding f now → x ≡ y) → x ≡ y
   equal x y fact = dite (ℕ_discrete x y) (λ e. e) (λ n. absurd (not_there h (λ r. n (fact r))))
 
-  pub here_cell : (n : ℕ) → n < (file f).names → word_of now (name_word (file f) n) ≡ 1 → (c : List ℕ) → home_of now n ≡ keeps c
+  pub here_cell : (n : ℕ) → n < (file f).names → word_of now (name_word (file f) n) ≡ 1 → (c : List ℕ)
+      → home_of now n ≡ keeps c
       → c ≡ (file f).cell n
-  here_cell n low e c home = ext_get_or 0 c ((file f).cell n) (equal (length c) (length ((file f).cell n)) (λ r. ap length (is r)))
+  here_cell n low e c home =
+      ext_get_or 0 c ((file f).cell n) (equal (length c) (length ((file f).cell n)) (λ r. ap length (is r)))
       (λ i l. equal (get_or c i 0) (get_or ((file f).cell n) i 0) (λ r. ap (λ (y : List ℕ). get_or y i 0) (is r)))
     where
       is : Holding f now → c ≡ (file f).cell n
       is r = let z : keeps c ≡ keeps ((file f).cell n) =
-          sym home ∙ cell_is (file f) n (home_of now n) (tells.here_cell (file f) f.opening (read (file f) now) r.ruled n low e) in cc
+          sym home
+          ∙ cell_is (file f) n (home_of now n) (tells.here_cell (file f) f.opening (read (file f) now) r.ruled n low e) in cc

@@ -55,7 +55,9 @@ module _ (b : BookFacts) (born ticks : ℕ) (k : Known) (s : Stored) (es : List 
     }
 
     keeps : Holding f w → Holding f (world s' (view c))
-    keeps h = subst (Holding f) (sym g.is) (let t = laws.all (file f) f.opening h.rest w (moves f w c) g.may (h.fits, h.ruled) in
+    keeps h =
+        subst (Holding f) (sym g.is) (let t =
+        laws.all (file f) f.opening h.rest w (moves f w c) g.may (h.fits, h.ruled) in
         record { rest = h.rest; fits = t.0; ruled = t.1 })
 
     stands_to : Stands b born ticks (record k { view = view c }) s' (es ++ entry_of c) (cut_by c cut)
@@ -87,25 +89,30 @@ module _ (b : BookFacts) (born ticks : ℕ) (k : Known) (s : Stored) (es : List 
       → Runs (file f) w (moves f w c) → erased v' ≡ seen f c (erased k.view) → Tied s' v' × IsReady f v'
       → length s'.closed ≡ length s.closed → length s'.names ≡ length s.names
       → IsFair c (actor_at f s k.view es cut) → IsAnswer f c w → Step c s'
-  from_run c s' v' e may sees kept closed names fair told = let at : view c ≡ v' = ap (λ (x : World). actor x 0) e in record {
-    is = ap (world s') at ∙ sym e;
-    may = may;
-    sees = ap erased at ∙ sees;
-    tied = subst (Tied s') (sym at) kept.0;
-    ready = subst (IsReady f) (sym at) kept.1;
-    closed = closed;
-    names = names;
-    fair = fair;
-    told = told;
-  }
+  from_run c s' v' e may sees kept closed names fair told = let at : view c ≡ v' = ap (λ (x : World). actor x 0) e in
+      record {
+        is = ap (world s') at ∙ sym e;
+        may = may;
+        sees = ap erased at ∙ sees;
+        tied = subst (Tied s') (sym at) kept.0;
+        ready = subst (IsReady f) (sym at) kept.1;
+        closed = closed;
+        names = names;
+        fair = fair;
+        told = told;
+      }
 
 module _ {b : BookFacts} {born ticks : ℕ} {k : Known} {s : Stored} {es : List Entry} {cut : Servers} {c : Call} {s' : Stored}
     (st : Stands b born ticks k s es cut) (g : Step b born ticks k s es cut c s') where
   -- what is kept after the call, and that it went so
-  pub stands_after : {k' : Known} {es' : List Entry} {cut' : Servers} → k' ≡ known_after b born ticks k s c → es' ≡ es ++ entry_of c
+  pub stands_after : {k' : Known} {es' : List Entry} {cut' : Servers} → k' ≡ known_after b born ticks k s c
+      → es' ≡ es ++ entry_of c
       → cut' ≡ cut_by c cut → Stands b born ticks k' s' es' cut'
-  stands_after {k' = k'} {es' = es'} {cut' = cut'} ek ee ec = stands b born ticks k s es cut c s' st g k' es' cut' ek ee ec
+  stands_after {k' = k'} {es' = es'} {cut' = cut'} ek ee ec =
+      stands b born ticks k s es cut c s' st g k' es' cut' ek ee ec
 
-  pub goes_after : {k' : Known} {es' : List Entry} {cut' : Servers} → k' ≡ known_after b born ticks k s c → es' ≡ es ++ entry_of c
-      → cut' ≡ cut_by c cut → Goes c (actor_at (facts_at b born ticks k) s k.view es cut) (actor_at (facts_at b born ticks k') s' k'.view es' cut')
+  pub goes_after : {k' : Known} {es' : List Entry} {cut' : Servers} → k' ≡ known_after b born ticks k s c
+      → es' ≡ es ++ entry_of c
+      → cut' ≡ cut_by c cut
+      → Goes c (actor_at (facts_at b born ticks k) s k.view es cut) (actor_at (facts_at b born ticks k') s' k'.view es' cut')
   goes_after {k' = k'} {es' = es'} {cut' = cut'} ek ee ec = goes b born ticks k s es cut c s' st g k' es' cut' ek ee ec

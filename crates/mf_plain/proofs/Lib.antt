@@ -6,3 +6,5 @@ pub mod Facts
 pub mod Steps
 pub mod Named
 pub mod Coding
+pub mod Begins
+pub mod Rests

@@ -44,12 +44,15 @@ pins_length c g (b ∷ bs) = ap suc (pins_length c (g + 1) bs)
 pub pins_at : (c : ℕ → ℕ) (from g : ℕ) (bs : List Bool) → g < length bs
     → get_or (pin_words c from bs) g 0 ≡ 9223372036854775808 * truth (get_or bs g false) + c (from + g)
 pins_at c from g [] low = absurd (omega arith)
-pins_at c from zero (b ∷ bs) low = ap (λ k. 9223372036854775808 * truth b + c k) (let e : from ≡ from + 0 = omega arith in e)
+pins_at c from zero (b ∷ bs) low =
+    ap (λ k. 9223372036854775808 * truth b + c k) (let e : from ≡ from + 0 = omega arith in e)
 pins_at c from (suc g) (b ∷ bs) low = pins_at c (from + 1) g bs (omega arith)
-    ∙ ap (λ k. 9223372036854775808 * truth (get_or bs g false) + c k) (let e : from + 1 + g ≡ from + suc g = omega arith in e)
+    ∙ ap (λ k. 9223372036854775808 * truth (get_or bs g false) + c k) (let e : from + 1 + g ≡ from + suc g =
+    omega arith in e)
 
 -- the same numbers of pins give the same words
-pub pins_same : (c d : ℕ → ℕ) (from : ℕ) (bs : List Bool) → ((j : ℕ) → from ≤ j → c j ≡ d j) → pin_words c from bs ≡ pin_words d from bs
+pub pins_same : (c d : ℕ → ℕ) (from : ℕ) (bs : List Bool) → ((j : ℕ) → from ≤ j → c j ≡ d j)
+    → pin_words c from bs ≡ pin_words d from bs
 pins_same c d from [] e = refl
 pins_same c d from (b ∷ bs) e = λ i. (9223372036854775808 * truth b + e from (let l : from ≤ from = omega arith in l) i)
     ∷ pins_same c d (from + 1) bs (λ j l. e j (omega arith)) i

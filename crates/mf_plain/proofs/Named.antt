@@ -13,7 +13,8 @@ use Rattle.mf_machine.specs.File.Home.{away, empty, keeps}
 use Rattle.mf_machine.specs.Moves.{Runs, by, run}
 use Rattle.mf_machine.specs.Moves as move
 use Rattle.mf_machine.specs.Steps as row
-use Rattle.mf_machine.specs.Worlds.{World, word_of, home_of, acted, counted, Row, comes_out, stays, meets, steps as counts_alone, noted}
+use Rattle.mf_machine.specs.Worlds.{World, word_of, home_of, acted, counted, Row, comes_out, stays, meets}
+use Rattle.mf_machine.specs.Worlds.{steps as counts_alone, noted}
 use Rattle.mf_machine.proofs.Words.{cell_here}
 use Rattle.mf_places.specs.declared.Name.{Name}
 use Rattle.mf_places.specs.declared.servers.Servers.{Servers}
@@ -83,7 +84,8 @@ unborn_zero rest.Dropped e = absurd (let z : state.Unborn ≡ state.Here = e in 
 lost_line : (r : Rest) (l : ℕ) → state.Lost l ≡ row.see_answer (resting.word_of r) → resting.word_of r ≡ 4 + l
 lost_line rest.Unborn l e = absurd (let z : state.Lost l ≡ state.Unborn = e in cc)
 lost_line (rest.Here c) l e = absurd (let z : state.Lost l ≡ state.Here = e in cc)
-lost_line (rest.Lost k) l e = ap (λ x. 4 + x) (let z : state.Lost l ≡ state.Lost k = e ∙ sees_lost k in let y : l ≡ k = cc in sym y)
+lost_line (rest.Lost k) l e =
+    ap (λ x. 4 + x) (let z : state.Lost l ≡ state.Lost k = e ∙ sees_lost k in let y : l ≡ k = cc in sym y)
 lost_line rest.Dropped l e = absurd (let z : state.Lost l ≡ state.Here = e in cc)
 
 see_sees : (a : State) (n i x : ℕ) (v : View) → erased (counted i x (row.see_view a n v)) ≡ row.see_view a n (erased v)
@@ -138,18 +140,26 @@ module _ {b : BookFacts} {born ticks : ℕ} {k : Known} {s : Stored} {es : List 
   same_names x = set-get_or s.names (number f x) rest.Unborn
 
   -- the view after a row that leaves the right and the slots
-  kept_as : (s' : Stored) (v' : View) → s'.right ≡ s.right → s'.hold ≡ s.hold → s'.work ≡ s.work → v'.share ≡ v.share → v'.gone ≡ v.gone
-      → v'.strays ≡ v.strays → v'.build.right ≡ v.build.right → v'.hold ≡ v.hold → v'.work ≡ v.work → Free v' → Tied s' v' × IsReady f v'
+  kept_as : (s' : Stored) (v' : View) → s'.right ≡ s.right → s'.hold ≡ s.hold → s'.work ≡ s.work → v'.share ≡ v.share
+      → v'.gone ≡ v.gone
+      → v'.strays ≡ v.strays → v'.build.right ≡ v.build.right → v'.hold ≡ v.hold → v'.work ≡ v.work → Free v'
+      → Tied s' v' × IsReady f v'
   kept_as = steps.kept_all st
 
-  see_kept : (a : State) (n i x : ℕ) → Tied s (counted i x (row.see_view a n v)) × IsReady f (counted i x (row.see_view a n v))
-  see_kept state.Unborn n i x = kept_as s (counted i x (row.see_view state.Unborn n v)) refl refl refl refl refl refl refl refl refl st.ready.free
-  see_kept state.Here n i x = kept_as s (counted i x (row.see_view state.Here n v)) refl refl refl refl refl refl refl refl refl st.ready.free
-  see_kept (state.Lost l) n i x = kept_as s (counted i x (row.see_view (state.Lost l) n v)) refl refl refl refl refl refl refl refl refl st.ready.free
+  see_kept : (a : State) (n i x : ℕ) → Tied s (counted i x (row.see_view a n v))
+      × IsReady f (counted i x (row.see_view a n v))
+  see_kept state.Unborn n i x =
+      kept_as s (counted i x (row.see_view state.Unborn n v)) refl refl refl refl refl refl refl refl refl st.ready.free
+  see_kept state.Here n i x =
+      kept_as s (counted i x (row.see_view state.Here n v)) refl refl refl refl refl refl refl refl refl st.ready.free
+  see_kept (state.Lost l) n i x =
+      kept_as s (counted i x (row.see_view (state.Lost l) n v)) refl refl refl refl refl refl refl refl refl st.ready.free
   see_kept (state.Away t) n i x = kept_as s (counted i x v) refl refl refl refl refl refl refl refl refl st.ready.free
 
-  sees_as : (x : Name) (a : State) → MayProbe x now → call.probe_moves (number f x) a ≡ by 0 (move.see (number f x)) ∷ []
-      → a ≡ row.see_answer (resting.word_of (r_of x)) → FairState now x a → IsState a (word_of w (i_of x)) → Step (call.probe x a) s
+  sees_as : (x : Name) (a : State) → MayProbe x now
+      → call.probe_moves (number f x) a ≡ by 0 (move.see (number f x)) ∷ []
+      → a ≡ row.see_answer (resting.word_of (r_of x)) → FairState now x a → IsState a (word_of w (i_of x))
+      → Step (call.probe x a) s
   sees_as x a m moves e fair told = let n = number f x in let i = i_of x in let xw = word_of w i in
       let v₁ : View = counted i xw (row.see_view a n v) in
       let is : row.see_answer xw ≡ a = ap row.see_answer (word_is x) ∙ sym e in
@@ -172,7 +182,8 @@ module _ {b : BookFacts} {born ticks : ℕ} {k : Known} {s : Stored} {es : List 
 
   -- a probe
   pub probes : (x : Name) (a : State) → MayProbe x now → FoundAs x a → Step (call.probe x a) s
-  probes x state.Unborn m q = let told : row.see_answer (word_of w (i_of x)) ≡ state.Unborn = ap row.see_answer (word_is x) ∙ sym q.1 in
+  probes x state.Unborn m q = let told : row.see_answer (word_of w (i_of x)) ≡ state.Unborn =
+      ap row.see_answer (word_is x) ∙ sym q.1 in
       sees_as x state.Unborn m refl q.1 (
         q.0,
         λ pin. facts.pinned_born f s v st.holding (number f x) (number_low f x m.0) pin
@@ -187,7 +198,8 @@ module _ {b : BookFacts} {born ticks : ℕ} {k : Known} {s : Stored} {es : List 
 
   -- a put and a restore
   brings : (x : Name) (c : List ℕ) → HasName f.book x → c ≡ cell_of f x
-      → HasCell (file f) (number f x) (keeps (cell_of f x)) × (world (with_name (number f x) (rest.Here (cell_of f x))) ≡ world (with_name (number f x) (rest.Here c)))
+      → HasCell (file f) (number f x) (keeps (cell_of f x))
+      × (world (with_name (number f x) (rest.Here (cell_of f x))) ≡ world (with_name (number f x) (rest.Here c)))
   brings x c had is = (
     cell_here (file f) (number f x) (keeps (cell_of f x)) (ap keeps (sym (cell_is f x had))),
     ap (λ y. world (with_name (number f x) (rest.Here y))) (sym is),
@@ -199,7 +211,8 @@ module _ {b : BookFacts} {born ticks : ℕ} {k : Known} {s : Stored} {es : List 
   empty_not_away : empty ≢ away
   empty_not_away e = absurd (let z : empty ≡ away = e in cc)
 
-  pub puts : (x : Name) (c : List ℕ) → MayPut x now → c ≡ cell_of f x → Step (call.put x) (with_name (number f x) (rest.Here c))
+  pub puts : (x : Name) (c : List ℕ) → MayPut x now → c ≡ cell_of f x
+      → Step (call.put x) (with_name (number f x) (rest.Here c))
   puts x c m is = let n = number f x in let i = i_of x in let xw = word_of w i in
       let v₁ : View = counted i xw (row.bearing n v) in let v₂ : View = row.born n v₁ in let z = brings x c m.0 is in
       let free = st.ready.free in
@@ -211,9 +224,11 @@ module _ {b : BookFacts} {born ticks : ℕ} {k : Known} {s : Stored} {es : List 
       refl (kept_as (with_name n (rest.Here c)) v₂ refl refl refl refl refl refl refl refl refl (omega arith)) refl
       (length-set s.names n (rest.Here c)) tt tt
 
-  pub restores : (x : Name) (c : List ℕ) → MayRestore x now → c ≡ cell_of f x → Step (call.restore x) (with_name (number f x) (rest.Here c))
+  pub restores : (x : Name) (c : List ℕ) → MayRestore x now → c ≡ cell_of f x
+      → Step (call.restore x) (with_name (number f x) (rest.Here c))
   restores x c m is = let n = number f x in let i = i_of x in let xw = word_of w i in
-      let v₁ : View = counted i xw (row.retaking n v) in let v₂ : View = row.restored n v₁ in let z = brings x c m.0 is in
+      let v₁ : View = counted i xw (row.retaking n v) in let v₂ : View = row.restored n v₁ in let z =
+      brings x c m.0 is in
       let free = st.ready.free in
       going.from_run b born ticks k s es cut (call.restore x) (with_name n (rest.Here c)) v₂
       (worlds.turned f s v long n (rest.Here (cell_of f x)) v₂ ∙ ap (λ y. y v₂) z.1) (
@@ -230,28 +245,38 @@ module _ {b : BookFacts} {born ticks : ℕ} {k : Known} {s : Stored} {es : List 
     views = v' ∷ [];
     hands = w.hands;
   } ≡ world (with_name (number f x) r) v'
-  leaves x r v' e = (λ j. record { words = worlds.again f s v long (i_of x) j; homes = w.homes; views = v' ∷ []; hands = w.hands })
+  leaves x r v' e =
+      (λ j. record { words = worlds.again f s v long (i_of x) j; homes = w.homes; views = v' ∷ []; hands = w.hands })
       ∙ ap (λ l. world (record s { names = l }) v') (sym (same_names x) ∙ ap (set s.names (number f x)) e)
 
   -- a discard
   drops_none : (x : Name) (r : Rest) → r_of x ≡ r → MayDiscard x now → row.drop_answer (resting.word_of r) ≡ row.nothing
-      → eqb (resting.word_of r) 1 ≡ false → dropped_of r ≡ r → (a : Bool) → a ≡ false → Step (call.discard x a) (with_name (number f x) (dropped_of r))
+      → eqb (resting.word_of r) 1 ≡ false → dropped_of r ≡ r → (a : Bool) → a ≡ false
+      → Step (call.discard x a) (with_name (number f x) (dropped_of r))
   drops_none x r e m none there same a is = let n = number f x in let i = i_of x in let xw = word_of w i in
       let word : xw ≡ resting.word_of r = word_is x ∙ ap resting.word_of e in
       let answer : row.drop_answer xw ≡ row.nothing = ap row.drop_answer word ∙ none in
       let not_one : eqb xw 1 ≡ false = ap (λ y. eqb y 1) word ∙ there in
       let v₁ : View = counted i xw (row.not_dropped n v) in
-      let first : run (file f) w (by 0 (move.drop n) ∷ []) ≡ record { words = set w.words i xw; homes = w.homes; views = v₁ ∷ []; hands = w.hands } =
+      let first : run (file f) w (by 0 (move.drop n) ∷ []) ≡ record {
+        words = set w.words i xw;
+        homes =
+            w.homes;
+        views = v₁ ∷ [];
+        hands = w.hands;
+      } =
       (λ j. acted (meeting f n (not_one j) (row.drop_view (answer j) n)) xw w 0) in
       let free = st.ready.free in
-      let step : Step (call.discard x false) (with_name n r) = going.from_run b born ticks k s es cut (call.discard x false) (with_name n r) v₁
+      let step : Step (call.discard x false) (with_name n r) =
+      going.from_run b born ticks k s es cut (call.discard x false) (with_name n r) v₁
       (ap (λ d. run (file f) w (call.drop_moves n d)) answer ∙ (first ∙ leaves x r v₁ e))
       (subst (λ d. Runs (file f) w (call.drop_moves n d)) (sym answer) ((steps.active st, steps.free st, number_low f x m.0, m.1), tt))
       refl (kept_as (with_name n r) v₁ refl refl refl refl refl refl refl refl refl (omega arith)) refl (length-set s.names n r) tt
       (sym (ap was_dropped answer)) in
       subst (λ y. Step (call.discard x y) (with_name n (dropped_of r))) (sym is) (subst (λ y. Step (call.discard x false) (with_name n y)) (sym same) step)
 
-  drops_here : (x : Name) (c : List ℕ) → r_of x ≡ rest.Here c → MayDiscard x now → Step (call.discard x true) (with_name (number f x) rest.Dropped)
+  drops_here : (x : Name) (c : List ℕ) → r_of x ≡ rest.Here c → MayDiscard x now
+      → Step (call.discard x true) (with_name (number f x) rest.Dropped)
   drops_here x c e m = let n = number f x in let i = i_of x in let xw = word_of w i in
       let word : xw ≡ 1 = word_is x ∙ ap resting.word_of e in
       let answer : row.drop_answer xw ≡ row.drops = ap row.drop_answer word in
@@ -262,7 +287,8 @@ module _ {b : BookFacts} {born ticks : ℕ} {k : Known} {s : Stored} {es : List 
       let free = st.ready.free in
       going.from_run b born ticks k s es cut (call.discard x true) (with_name n rest.Dropped) v₂
       (ap (λ d. run (file f) w (call.drop_moves n d)) answer
-      ∙ (ap (λ y. run (file f) y (call.emptied ∷ by 0 (move.dropped n) ∷ [])) first ∙ worlds.turned f s v long n rest.Dropped v₂))
+      ∙ (ap (λ y. run (file f) y (call.emptied ∷ by 0 (move.dropped n) ∷ [])) first
+      ∙ worlds.turned f s v long n rest.Dropped v₂))
       (subst (λ d. Runs (file f) w (call.drop_moves n d)) (sym answer) (
         (steps.active st, steps.free st, number_low f x m.0, m.1),
         subst (λ y. Runs (file f) y (call.emptied ∷ by 0 (move.dropped n) ∷ [])) (sym first)
@@ -271,7 +297,8 @@ module _ {b : BookFacts} {born ticks : ℕ} {k : Known} {s : Stored} {es : List 
       refl (kept_as (with_name n rest.Dropped) v₂ refl refl refl refl refl refl refl refl refl (omega arith)) refl
       (length-set s.names n rest.Dropped) tt (sym (ap was_dropped answer))
 
-  drops_lost_name : (x : Name) (l : ℕ) → r_of x ≡ rest.Lost l → MayDiscard x now → Step (call.discard x true) (with_name (number f x) rest.Dropped)
+  drops_lost_name : (x : Name) (l : ℕ) → r_of x ≡ rest.Lost l → MayDiscard x now
+      → Step (call.discard x true) (with_name (number f x) rest.Dropped)
   drops_lost_name x l e m = let n = number f x in let i = i_of x in let xw = word_of w i in
       let word : xw ≡ 4 + l = word_is x ∙ ap resting.word_of e in
       let answer : row.drop_answer xw ≡ row.tries = ap row.drop_answer word ∙ drops_lost l in
@@ -292,7 +319,8 @@ module _ {b : BookFacts} {born ticks : ℕ} {k : Known} {s : Stored} {es : List 
       ∙ sym (worlds.named f s v long n rest.Dropped v₂)) in
       let free = st.ready.free in
       going.from_run b born ticks k s es cut (call.discard x true) (with_name n rest.Dropped) v₂
-      (ap (λ d. run (file f) w (call.drop_moves n d)) answer ∙ (ap (λ y. run (file f) y (by 0 (move.drop_again n) ∷ [])) first ∙ second))
+      (ap (λ d. run (file f) w (call.drop_moves n d)) answer
+      ∙ (ap (λ y. run (file f) y (by 0 (move.drop_again n) ∷ [])) first ∙ second))
       (subst (λ d. Runs (file f) w (call.drop_moves n d)) (sym answer) (
         (steps.active st, steps.free st, number_low f x m.0, m.1),
         subst (λ y. Runs (file f) y (by 0 (move.drop_again n) ∷ [])) (sym first) ((steps.active st, refl), tt),
@@ -302,14 +330,17 @@ module _ {b : BookFacts} {born ticks : ℕ} {k : Known} {s : Stored} {es : List 
     where
       -- the slot of a lost name is empty already
       bare_home : (x : Name) (l : ℕ) → r_of x ≡ rest.Lost l → w.homes ≡ set w.homes (number f x) empty
-      bare_home x l e = sym (ap (set w.homes (number f x)) (sym (worlds.home_get f s v long (number f x) ∙ ap resting.home_of e))
+      bare_home x l e =
+          sym (ap (set w.homes (number f x)) (sym (worlds.home_get f s v long (number f x) ∙ ap resting.home_of e))
           ∙ set-get_or w.homes (number f x) empty)
 
-  pub drops : (x : Name) (r : Rest) (a : Bool) → r_of x ≡ r → MayDiscard x now → a ≡ was_dropped (row.drop_answer (resting.word_of r))
+  pub drops : (x : Name) (r : Rest) (a : Bool) → r_of x ≡ r → MayDiscard x now
+      → a ≡ was_dropped (row.drop_answer (resting.word_of r))
       → Step (call.discard x a) (with_name (number f x) (dropped_of r))
   drops x rest.Unborn a e m is = drops_none x rest.Unborn e m refl refl refl a is
   drops x rest.Dropped a e m is = drops_none x rest.Dropped e m refl refl refl a is
-  drops x (rest.Here c) a e m is = subst (λ y. Step (call.discard x y) (with_name (number f x) rest.Dropped)) (sym is) (drops_here x c e m)
+  drops x (rest.Here c) a e m is =
+      subst (λ y. Step (call.discard x y) (with_name (number f x) rest.Dropped)) (sym is) (drops_here x c e m)
   drops x (rest.Lost l) a e m is = subst (λ y. Step (call.discard x y) (with_name (number f x) rest.Dropped))
       (sym (is ∙ ap was_dropped (drops_lost l))) (drops_lost_name x l e m)
 
@@ -326,7 +357,8 @@ module _ {b : BookFacts} {born ticks : ℕ} {k : Known} {s : Stored} {es : List 
       let free = st.ready.free in
       going.from_run b born ticks k s es cut (call.lose x l true) (with_name n (rest.Lost l)) v₂
       (ap (λ d. run (file f) w (call.lose_moves n l d)) answer
-      ∙ (ap (λ y. run (file f) y (call.emptied ∷ by 0 (move.lost n l) ∷ [])) first ∙ worlds.turned f s v long n (rest.Lost l) v₂))
+      ∙ (ap (λ y. run (file f) y (call.emptied ∷ by 0 (move.lost n l) ∷ [])) first
+      ∙ worlds.turned f s v long n (rest.Lost l) v₂))
       (subst (λ d. Runs (file f) w (call.lose_moves n l d)) (sym answer) (
         (steps.active st, steps.free st, number_low f x m.0, m.1),
         subst (λ y. Runs (file f) y (call.emptied ∷ by 0 (move.lost n l) ∷ [])) (sym first)
@@ -335,14 +367,21 @@ module _ {b : BookFacts} {born ticks : ℕ} {k : Known} {s : Stored} {es : List 
       refl (kept_as (with_name n (rest.Lost l)) v₂ refl refl refl refl refl refl refl refl refl (omega arith)) refl
       (length-set s.names n (rest.Lost l)) tt (sym answer)
 
-  loses_none : (x : Name) (r : Rest) (l : ℕ) → r_of x ≡ r → MayLose x l now → row.lose_answer (resting.word_of r) ≡ losing.Nothing
+  loses_none : (x : Name) (r : Rest) (l : ℕ) → r_of x ≡ r → MayLose x l now
+      → row.lose_answer (resting.word_of r) ≡ losing.Nothing
       → eqb (resting.word_of r) 1 ≡ false → Step (call.lose x l false) (with_name (number f x) r)
   loses_none x r l e m none there = let n = number f x in let i = i_of x in let xw = word_of w i in
       let word : xw ≡ resting.word_of r = word_is x ∙ ap resting.word_of e in
       let answer : row.lose_answer xw ≡ losing.Nothing = ap row.lose_answer word ∙ none in
       let not_one : eqb xw 1 ≡ false = ap (λ y. eqb y 1) word ∙ there in
       let v₁ : View = counted i xw (row.not_lost n v) in
-      let first : run (file f) w (by 0 (move.lose n l) ∷ []) ≡ record { words = set w.words i xw; homes = w.homes; views = v₁ ∷ []; hands = w.hands } =
+      let first : run (file f) w (by 0 (move.lose n l) ∷ []) ≡ record {
+        words = set w.words i xw;
+        homes =
+            w.homes;
+        views = v₁ ∷ [];
+        hands = w.hands;
+      } =
       (λ j. acted (meeting f n (not_one j) (λ y. row.lose_view (answer j) n l)) xw w 0) in
       let free = st.ready.free in
       going.from_run b born ticks k s es cut (call.lose x l false) (with_name n r) v₁
@@ -350,7 +389,8 @@ module _ {b : BookFacts} {born ticks : ℕ} {k : Known} {s : Stored} {es : List 
       (subst (λ d. Runs (file f) w (call.lose_moves n l d)) (sym answer) ((steps.active st, steps.free st, number_low f x m.0, m.1), tt))
       refl (kept_as (with_name n r) v₁ refl refl refl refl refl refl refl refl refl free) refl (length-set s.names n r) tt (sym answer)
 
-  pub loses : (x : Name) (r : Rest) (l : ℕ) (a : Bool) → r_of x ≡ r → MayLose x l now → was_lost a ≡ row.lose_answer (resting.word_of r)
+  pub loses : (x : Name) (r : Rest) (l : ℕ) (a : Bool) → r_of x ≡ r → MayLose x l now
+      → was_lost a ≡ row.lose_answer (resting.word_of r)
       → Step (call.lose x l a) (with_name (number f x) (lost_of l r))
   loses x rest.Unborn l true e m is = absurd (let z : losing.Done ≡ losing.Nothing = is in cc)
   loses x rest.Unborn l false e m is = loses_none x rest.Unborn l e m refl refl
@@ -377,7 +417,8 @@ module _ {b : BookFacts} {born ticks : ℕ} {k : Known} {s : Stored} {es : List 
       (λ j. acted (meeting f n (ap (λ y. eqb y 1) word j) (λ y. row.take_view (answer j) n)) xw w 0) in
       let free = st.ready.free in
       going.from_run b born ticks k s es cut (call.get x o) s v₂
-      (ap (run (file f) w) moves ∙ (ap (λ y. run (file f) y (by 0 (move.give n) ∷ [])) first ∙ worlds.returned f s v long n v₂ word))
+      (ap (run (file f) w) moves
+      ∙ (ap (λ y. run (file f) y (by 0 (move.give n) ∷ [])) first ∙ worlds.returned f s v long n v₂ word))
       (subst (Runs (file f) w) (sym moves) (
         (steps.active st, steps.free st, number_low f x m.0, m.1),
         subst (λ y. Runs (file f) y (by 0 (move.give n) ∷ [])) (sym first)
@@ -385,7 +426,8 @@ module _ {b : BookFacts} {born ticks : ℕ} {k : Known} {s : Stored} {es : List 
       ))
       (sym (rows (erased v))) (kept_as s v₂ refl refl refl refl refl refl refl refl refl (omega arith)) refl refl fair told
 
-  gets_lost : (x : Name) (l : ℕ) → r_of x ≡ rest.Lost l → MayGet x now → IsReached now x → Step (call.get x (got.Lost l)) s
+  gets_lost : (x : Name) (l : ℕ) → r_of x ≡ rest.Lost l → MayGet x now → IsReached now x
+      → Step (call.get x (got.Lost l)) s
   gets_lost x l e m reached = let n = number f x in let i = i_of x in let xw = word_of w i in
       let word : xw ≡ 4 + l = word_is x ∙ ap resting.word_of e in
       let answer : row.take_answer xw ≡ row.gone l = ap row.take_answer word ∙ takes_lost l in
@@ -409,8 +451,11 @@ module _ {b : BookFacts} {born ticks : ℕ} {k : Known} {s : Stored} {es : List 
   pub gets : (x : Name) (o : Got) → MayGet x now → GotAs x o → Step (call.get x o) s
   gets x (got.Here c) m q = let word = word_is x ∙ ap resting.word_of q.1 in
       let home : home_of w (number f x) ≡ keeps c = worlds.home_get f s v long (number f x) ∙ ap resting.home_of q.1 in
-      gets_here x c (got.Here c) q.1 m refl (λ y. refl)
-      (q.0, facts.here_cell f s v st.holding (number f x) (number_low f x m.0) word c home ∙ cell_is f x m.0) (ap row.take_answer word)
+      gets_here x c (got.Here c) q.1 m refl (λ y. refl) (
+        q.0,
+        facts.here_cell f s v st.holding (number f x) (number_low f x m.0) word c home
+            ∙ cell_is f x m.0,
+      ) (ap row.take_answer word)
   gets x (got.Lost l) m q = gets_lost x l q.1 m q.0
   gets x (got.Away t) m q = going.from_run b born ticks k s es cut (call.get x (got.Away t)) s v refl tt refl
       (st.tied, st.ready) refl refl q tt
@@ -419,7 +464,9 @@ module _ {b : BookFacts} {born ticks : ℕ} {k : Known} {s : Stored} {es : List 
 
   -- a name of a pinned generation is Here or Lost
   pub there : (x : Name) (r : Rest) → r_of x ≡ r → MayGet x now → IsThere r
-  there x rest.Unborn e m = facts.pinned_born f s v st.holding (number f x) (number_low f x m.0) m.1 (word_is x ∙ ap resting.word_of e)
+  there x rest.Unborn e m =
+      facts.pinned_born f s v st.holding (number f x) (number_low f x m.0) m.1 (word_is x ∙ ap resting.word_of e)
   there x (rest.Here c) e m = tt
   there x (rest.Lost l) e m = tt
-  there x rest.Dropped e m = facts.pinned_there f s v st.holding (number f x) (number_low f x m.0) m.1 (word_is x ∙ ap resting.word_of e)
+  there x rest.Dropped e m =
+      facts.pinned_there f s v st.holding (number f x) (number_low f x m.0) m.1 (word_is x ∙ ap resting.word_of e)

@@ -1,6 +1,7 @@
 -- The steps of each call without an entry.
 use Rattle.std.proofs.Common.{◌≡◌, ◌≢◌, ℕ, ◌+◌, ◌-◌, ◌*◌, ◌<◌, ◌≤◌, Bool, true, false, cond, eqb, List, [], ◌∷◌}
-use Rattle.std.proofs.Common.{length, get_or, set, Option, Some, None, sym, refl, ap, ◌∙◌, subst, ⊎_elim, arith, length-set}
+use Rattle.std.proofs.Common.{length, get_or, set, Option, Some, None, sym, refl, ap, ◌∙◌, subst, ⊎_elim, arith}
+use Rattle.std.proofs.Common.{length-set}
 use Rattle.std.proofs.lemmas.Bool.{lt-ltb}
 use mathlib.Core.Logic.{dite}
 use native.Mathlib.Decide.{ℕ_discrete}
@@ -44,17 +45,22 @@ few P a b c p l = dite (ℕ_discrete p 0) (λ e. subst P (sym e) a) (λ m. dite 
 close_word : (shut : Bool) (p : ℕ) → p ≤ 2
     → cond (eqb (9223372036854775808 * truth shut + p) 0) 9223372036854775808 (9223372036854775808 * truth shut + p)
     ≡ 9223372036854775808 * truth (shut_by (row.close_answer (9223372036854775808 * truth shut + p)) shut) + p
-close_word true p l = few (λ p. cond (eqb (9223372036854775808 * truth true + p) 0) 9223372036854775808 (9223372036854775808 * truth true + p)
+close_word true p l =
+    few (λ p. cond (eqb (9223372036854775808 * truth true + p) 0) 9223372036854775808 (9223372036854775808 * truth true + p)
     ≡ 9223372036854775808 * truth (shut_by (row.close_answer (9223372036854775808 * truth true + p)) true) + p) refl refl refl p l
-close_word false p l = few (λ p. cond (eqb (9223372036854775808 * truth false + p) 0) 9223372036854775808 (9223372036854775808 * truth false + p)
+close_word false p l =
+    few (λ p. cond (eqb (9223372036854775808 * truth false + p) 0) 9223372036854775808 (9223372036854775808 * truth false + p)
     ≡ 9223372036854775808 * truth (shut_by (row.close_answer (9223372036854775808 * truth false + p)) false) + p) refl refl refl p l
 
 close_fair : (shut : Bool) (p : ℕ) → p ≤ 2 → FairClose (row.close_answer (9223372036854775808 * truth shut + p))
 close_fair true p l = few (λ p. FairClose (row.close_answer (9223372036854775808 * truth true + p))) tt tt tt p l
-close_fair false p l = few (λ p. FairClose (row.close_answer (9223372036854775808 * truth false + p))) tt (let z : 0 < 1 = omega arith in z)
+close_fair false p l =
+    few (λ p. FairClose (row.close_answer (9223372036854775808 * truth false + p))) tt (let z : 0 < 1 = omega arith in
+    z)
     (let z : 0 < 2 = omega arith in z) p l
 
-closed_sees : (c : Closed) (g i x : ℕ) (v : View) → erased (counted i x (row.close_view c g v)) ≡ row.close_view c g (erased v)
+closed_sees : (c : Closed) (g i x : ℕ) (v : View)
+    → erased (counted i x (row.close_view c g v)) ≡ row.close_view c g (erased v)
 closed_sees Done g i x v = refl
 closed_sees (Pins n) g i x v = refl
 closed_sees Already g i x v = refl
@@ -115,60 +121,83 @@ module _ {b : BookFacts} {born ticks : ℕ} {k : Known} {s : Stored} {es : List 
   work_low = let a = st.tied.work in let l = st.ready.work in omega arith
 
   -- where the right and the slots stay
-  pub kept_all : (s' : Stored) (v' : View) → s'.right ≡ s.right → s'.hold ≡ s.hold → s'.work ≡ s.work → v'.share ≡ v.share → v'.gone ≡ v.gone
+  pub kept_all : (s' : Stored) (v' : View) → s'.right ≡ s.right → s'.hold ≡ s.hold → s'.work ≡ s.work
+      → v'.share ≡ v.share → v'.gone ≡ v.gone
       → v'.strays ≡ v.strays → v'.build.right ≡ v.build.right → v'.hold ≡ v.hold → v'.work ≡ v.work → Free v'
       → Tied s' v' × IsReady f v'
   kept_all s' v' sr sh sw share gone strays right hold work free' = kept s' v' share gone strays
-      (right ∙ (st.tied.right ∙ ap truth (sym sr))) (hold ∙ (st.tied.hold ∙ ap place (sym sh))) (work ∙ (st.tied.work ∙ ap place (sym sw))) free'
+      (right ∙ (st.tied.right ∙ ap truth (sym sr))) (hold ∙ (st.tied.hold ∙ ap place (sym sh))) (work
+      ∙ (st.tied.work ∙ ap place (sym sw))) free'
       (let l = hold_low in let e = ap place sh in omega arith) (let l = work_low in let e = ap place sw in omega arith)
 
   pub cuts : (servers : Servers) → Step (call.cut_off servers) s
-  cuts servers = going.from_run b born ticks k s es cut (call.cut_off servers) s v refl tt refl (st.tied, st.ready) refl refl tt tt
+  cuts servers =
+      going.from_run b born ticks k s es cut (call.cut_off servers) s v refl tt refl (st.tied, st.ready) refl refl tt tt
 
   pub ends : v.build.right ≡ 1 → Step call.end (record s { right = false })
-  ends r = going.from_run b born ticks k s es cut call.end (record s { right = false }) (counted 1 (truth s.right) (row.ended v)) refl
+  ends r =
+      going.from_run b born ticks k s es cut call.end (record s {
+        right =
+            false;
+      }) (counted 1 (truth s.right) (row.ended v)) refl
       ((active, idle, r), tt) refl
-      (kept (record s { right = false }) (counted 1 (truth s.right) (row.ended v)) refl refl refl refl st.tied.hold st.tied.work free hold_low work_low)
+      (kept (record s {
+        right =
+            false;
+      }) (counted 1 (truth s.right) (row.ended v)) refl refl refl refl st.tied.hold st.tied.work free hold_low work_low)
       refl refl tt tt
 
   pub begins : v.build.right ≡ 0 → Step (call.begin true) (record s { right = true })
   begins r = let e : truth s.right ≡ 0 = sym st.tied.right ∙ r in
       going.from_run b born ticks k s es cut (call.begin true) (record s { right = true }) (counted 1 0 (row.begun v))
       (ap (λ x. acted row.begin_row x w 0) e) ((active, idle, r), tt) refl
-      (kept (record s { right = true }) (counted 1 0 (row.begun v)) refl refl refl refl st.tied.hold st.tied.work free hold_low work_low)
+      (kept (record s {
+        right =
+            true;
+      }) (counted 1 0 (row.begun v)) refl refl refl refl st.tied.hold st.tied.work free hold_low work_low)
       refl refl tt (sym (ap row.begin_answer e))
 
-  pub publishes : (next : ℕ) → MayPublish next (actor_at f s v es cut) → Step (call.publish next) (record s { number = next })
+  pub publishes : (next : ℕ) → MayPublish next (actor_at f s v es cut)
+      → Step (call.publish next) (record s { number = next })
   publishes next m = going.from_run b born ticks k s es cut (call.publish next) (record s { number = next })
       (counted 0 s.number (row.published next v)) refl ((active, idle, m.0, m.1, m.2), tt) refl
-      (kept_all (record s { number = next }) (counted 0 s.number (row.published next v)) refl refl refl refl refl refl refl refl refl free)
+      (kept_all (record s {
+        number =
+            next;
+      }) (counted 0 s.number (row.published next v)) refl refl refl refl refl refl refl refl refl free)
       refl refl above tt
     where
       above : v.seen.number < next
-      above = let low = facts.number_seen f s v st.holding in let now = facts.current f s v st.holding m.0 m.1 in let l = m.2.1 in
+      above = let low = facts.number_seen f s v st.holding in let now = facts.current f s v st.holding m.0 m.1 in
+          let l = m.2.1 in
           ⊎_elim (λ t. let e = t.0 in omega arith) (λ t. let e = t.0 in let h = t.2 in omega arith) m.2.2
 
   finds : (slot : Slot) (p : Pinned) (n : ℕ) → s.number ≡ n → ((x : View) → row.looked n x ≡ call.pinned f slot p x)
-      → Rattle.mf_vault.specs.Answers.IsPin f p (erased v) → IsNumber (stages f) p s.number → call.pin_moves slot p ≡ by 0 move.look ∷ []
+      → Rattle.mf_vault.specs.Answers.IsPin f p (erased v) → IsNumber (stages f) p s.number
+      → call.pin_moves slot p ≡ by 0 move.look ∷ []
       → Step (call.pin slot [] p) s
-  finds slot p n e rows fair told only = going.from_run b born ticks k s es cut (call.pin slot [] p) s (counted 0 s.number (row.looked s.number v))
+  finds slot p n e rows fair told only =
+      going.from_run b born ticks k s es cut (call.pin slot [] p) s (counted 0 s.number (row.looked s.number v))
       (ap (run (file f) w) only) (subst (Runs (file f) w) (sym only) ((active, idle), tt))
       (ap (λ x. erased (row.looked x v)) e ∙ rows (erased v))
       (kept_all s (counted 0 s.number (row.looked s.number v)) refl refl refl refl refl refl refl refl refl free)
       refl refl fair (refl, told)
 
   pub finds_none : (slot : Slot) → s.number ≡ 0 → Step (call.pin slot [] Absent) s
-  finds_none slot e = finds slot Absent 0 e (λ x. refl) (let l = facts.number_seen f s v st.holding in omega arith) e refl
+  finds_none slot e =
+      finds slot Absent 0 e (λ x. refl) (let l = facts.number_seen f s v st.holding in omega arith) e refl
 
   pub finds_removed : (slot : Slot) → s.number ≡ stages f + 1 → Step (call.pin slot [] Removed) s
-  finds_removed slot e = finds slot Removed (stages f + 1) e (λ x. refl) (let l = facts.number_seen f s v st.holding in omega arith) e refl
+  finds_removed slot e =
+      finds slot Removed (stages f + 1) e (λ x. refl) (let l = facts.number_seen f s v st.holding in omega arith) e refl
 
   long : length s.closed ≡ stages f
   long = st.closed
 
   -- a slot that is filled, or freed, at g, and the other slot with any place
   filled_on : (g place : ℕ) → on g (g + 1) place ≡ on g 0 place + 1
-  filled_on g place = let a = bit_is (g + 1) (g + 1) refl in let z = bit_not 0 (g + 1) (λ e. let y : 0 ≡ g + 1 = e in absurd (omega arith)) in omega arith
+  filled_on g place = let a = bit_is (g + 1) (g + 1) refl in let z =
+      bit_not 0 (g + 1) (λ e. let y : 0 ≡ g + 1 = e in absurd (omega arith)) in omega arith
 
   filled_else : (g j place : ℕ) → j ≢ g → on j 0 place ≡ on j (g + 1) place
   filled_else g j place ne = let a = bit_not (g + 1) (j + 1) (λ e. ne (let y : g + 1 ≡ j + 1 = e in omega arith)) in
@@ -182,7 +211,8 @@ module _ {b : BookFacts} {born ticks : ℕ} {k : Known} {s : Stored} {es : List 
     same_closed : set s.closed g (get_or s.closed g false) ≡ s.closed
     same_closed = set-get_or s.closed g false
 
-    slots : (hold' work' : Option ℕ) (x : ℕ) (v' : View) → ((j : ℕ) → (j ≡ g → ⊥) → pins_of s.hold s.work j ≡ pins_of hold' work' j)
+    slots : (hold' work' : Option ℕ) (x : ℕ) (v' : View)
+        → ((j : ℕ) → (j ≡ g → ⊥) → pins_of s.hold s.work j ≡ pins_of hold' work' j)
         → x + pins_of s.hold s.work g ≡ word_of w (g + 2) + pins_of hold' work' g
         → record { words = set w.words (g + 2) x; homes = w.homes; views = v' ∷ []; hands = w.hands }
         ≡ world (record s { hold = hold'; work = work' }) v'
@@ -193,7 +223,8 @@ module _ {b : BookFacts} {born ticks : ℕ} {k : Known} {s : Stored} {es : List 
   unopened : (g : ℕ) → word_of w (g + 2) ≤ 3221225472 → row.pin_answer (word_of w (g + 2)) ≡ true
   unopened g l = lt-ltb (word_of w (g + 2)) 9223372036854775808 (omega arith)
 
-  pins_hold : (g : ℕ) → s.number ≡ g + 1 → g < stages f → v.hold ≡ 0 → Step (call.pin Hold [] (At g)) (record s { hold = Some g })
+  pins_hold : (g : ℕ) → s.number ≡ g + 1 → g < stages f → v.hold ≡ 0
+      → Step (call.pin Hold [] (At g)) (record s { hold = Some g })
   pins_hold g e low free_slot = let v₁ : View = counted 0 s.number (row.looked s.number v) in
       let x = word_of w (g + 2) in let few = facts.open_at f s v st.holding g e low in
       let v₂ : View = counted (g + 2) x (row.pinned Hold g v₁) in
@@ -211,7 +242,8 @@ module _ {b : BookFacts} {born ticks : ℕ} {k : Known} {s : Stored} {es : List 
       (kept (record s { hold = Some g }) v₂ refl refl refl st.tied.right refl st.tied.work free (omega arith) work_low)
       refl refl (low, (let l = facts.number_seen f s v st.holding in omega arith)) (refl, (e, low))
 
-  pins_work : (g : ℕ) → s.number ≡ g + 1 → g < stages f → v.work ≡ 0 → Step (call.pin Work [] (At g)) (record s { work = Some g })
+  pins_work : (g : ℕ) → s.number ≡ g + 1 → g < stages f → v.work ≡ 0
+      → Step (call.pin Work [] (At g)) (record s { work = Some g })
   pins_work g e low free_slot = let v₁ : View = counted 0 s.number (row.looked s.number v) in
       let x = word_of w (g + 2) in let few = facts.open_at f s v st.holding g e low in
       let v₂ : View = counted (g + 2) x (row.pinned Work g v₁) in
@@ -253,8 +285,12 @@ module _ {b : BookFacts} {born ticks : ℕ} {k : Known} {s : Stored} {es : List 
       ap (λ y. run (file f) w (by 0 (move.unpin Hold y) ∷ [])) (let z : v.hold - 1 ≡ g = omega arith in z)
       ∙ slots g lg None s.work (x - 1) v₁ far (omega arith) in
       going.from_run b born ticks k s es cut (call.unpin Hold) (record s { hold = None }) v₁ to
-      (subst (λ y. Runs (file f) w (by 0 (move.unpin Hold y) ∷ [])) (let z : g ≡ v.hold - 1 = omega arith in z) ((active, free, at), tt))
-      refl (kept (record s { hold = None }) v₁ refl refl refl st.tied.right refl st.tied.work free (omega arith) work_low)
+      (subst (λ y. Runs (file f) w (by 0 (move.unpin Hold y) ∷ [])) (let z : g ≡ v.hold - 1 = omega arith in
+      z) ((active, free, at), tt))
+      refl (kept (record s {
+        hold =
+            None;
+      }) v₁ refl refl refl st.tied.right refl st.tied.work free (omega arith) work_low)
       refl refl tt tt
 
   unpins_work : (h : Option ℕ) → s.work ≡ h → 0 < v.work → Step (call.unpin Work) (record s { work = None })
@@ -271,8 +307,12 @@ module _ {b : BookFacts} {born ticks : ℕ} {k : Known} {s : Stored} {es : List 
       ap (λ y. run (file f) w (by 0 (move.unpin Work y) ∷ [])) (let z : v.work - 1 ≡ g = omega arith in z)
       ∙ slots g lg s.hold None (x - 1) v₁ far (omega arith) in
       going.from_run b born ticks k s es cut (call.unpin Work) (record s { work = None }) v₁ to
-      (subst (λ y. Runs (file f) w (by 0 (move.unpin Work y) ∷ [])) (let z : g ≡ v.work - 1 = omega arith in z) ((active, free, at), tt))
-      refl (kept (record s { work = None }) v₁ refl refl refl st.tied.right st.tied.hold refl free hold_low (omega arith))
+      (subst (λ y. Runs (file f) w (by 0 (move.unpin Work y) ∷ [])) (let z : g ≡ v.work - 1 = omega arith in
+      z) ((active, free, at), tt))
+      refl (kept (record s {
+        work =
+            None;
+      }) v₁ refl refl refl st.tied.right st.tied.hold refl free hold_low (omega arith))
       refl refl tt tt
 
   pub unpins : (slot : Slot) → MayUnpin slot (actor_at f s v es cut)
@@ -281,54 +321,87 @@ module _ {b : BookFacts} {born ticks : ℕ} {k : Known} {s : Stored} {es : List 
   unpins Work full = unpins_work s.work refl full
 
   -- a close
-  pub closes : (g : ℕ) (c : Closed) (shut : Bool) (p : ℕ) → shut ≡ get_or s.closed g false → p ≡ pins_of s.hold s.work g → p ≤ 2
+  pub closes : (g : ℕ) (c : Closed) (shut : Bool) (p : ℕ) → shut ≡ get_or s.closed g false → p ≡ pins_of s.hold s.work g
+      → p ≤ 2
       → c ≡ row.close_answer (9223372036854775808 * truth shut + p) → MayClose g (actor_at f s v es cut)
       → Step (call.close g c) (record s { closed = set s.closed g (shut_by c shut) })
   closes g c shut p bit pins few answer m = let lg : g < length s.closed = let l = long in let y = m.0 in omega arith in
       let x = word_of w (g + 2) in
       let word : x ≡ 9223372036854775808 * truth shut + p = worlds.pin_get f s v long g lg
-      ∙ (ap (λ y. 9223372036854775808 * truth y + pins_of s.hold s.work g) (sym bit) ∙ ap (λ y. 9223372036854775808 * truth shut + y) (sym pins)) in
+      ∙ (ap (λ y. 9223372036854775808 * truth y + pins_of s.hold s.work g) (sym bit)
+      ∙ ap (λ y. 9223372036854775808 * truth shut + y) (sym pins)) in
       let told : c ≡ row.close_answer x = answer ∙ sym (ap row.close_answer word) in
       let v₁ : View = counted (g + 2) x (row.close_view c g v) in
       let new : cond (eqb x 0) 9223372036854775808 x ≡ 9223372036854775808 * truth (shut_by c shut) + pins_of s.hold s.work g =
       ap (λ y. cond (eqb y 0) 9223372036854775808 y) word ∙ (close_word shut p few
       ∙ (ap (λ y. 9223372036854775808 * truth (shut_by y shut) + p) (sym answer)
       ∙ ap (λ y. 9223372036854775808 * truth (shut_by c shut) + y) pins)) in
-      let to : run (file f) w (by 0 (move.close g) ∷ []) ≡ world (record s { closed = set s.closed g (shut_by c shut) }) v₁ =
+      let to : run (file f) w (by 0 (move.close g) ∷ []) ≡ world (record s {
+        closed =
+            set s.closed g (shut_by c shut);
+      }) v₁ =
       ap (λ y. acted (word_row (g + 2) (λ z. cond (eqb z 0) 9223372036854775808 z) (λ z. row.close_view y g)) x w 0) (sym told)
       ∙ worlds.pins_are f s v long s.hold s.work g (cond (eqb x 0) 9223372036854775808 x) (shut_by c shut) v₁ lg (λ j ne. refl) new in
-      going.from_run b born ticks k s es cut (call.close g c) (record s { closed = set s.closed g (shut_by c shut) }) v₁ to
+      going.from_run b born ticks k s es cut (call.close g c) (record s {
+        closed =
+            set s.closed g (shut_by c shut);
+      }) v₁ to
       ((active, idle, m.0, m.1), tt) (closed_sees c g (g + 2) x v)
       (closed_kept c g x) (length-set s.closed g (shut_by c shut)) refl
       (subst FairClose (sym answer) (close_fair shut p few)) told
     where
-      closed_kept : (c : Closed) (g x : ℕ) → Tied (record s { closed = set s.closed g (shut_by c shut) }) (counted (g + 2) x (row.close_view c g v))
+      closed_kept : (c : Closed) (g x : ℕ)
+          → Tied (record s { closed = set s.closed g (shut_by c shut) }) (counted (g + 2) x (row.close_view c g v))
           × IsReady f (counted (g + 2) x (row.close_view c g v))
-      closed_kept Done g x = kept_all (record s { closed = set s.closed g (shut_by Done shut) }) (counted (g + 2) x (row.close_view Done g v)) refl refl refl refl refl refl refl refl refl free
-      closed_kept (Pins n) g x = kept_all (record s { closed = set s.closed g (shut_by (Pins n) shut) }) (counted (g + 2) x (row.close_view (Pins n) g v)) refl refl refl refl refl refl refl refl refl free
-      closed_kept Already g x = kept_all (record s { closed = set s.closed g (shut_by Already shut) }) (counted (g + 2) x (row.close_view Already g v)) refl refl refl refl refl refl refl refl refl free
+      closed_kept Done g x =
+          kept_all (record s {
+            closed =
+                set s.closed g (shut_by Done shut);
+          }) (counted (g + 2) x (row.close_view Done g v)) refl refl refl refl refl refl refl refl refl free
+      closed_kept (Pins n) g x =
+          kept_all (record s {
+            closed =
+                set s.closed g (shut_by (Pins n) shut);
+          }) (counted (g + 2) x (row.close_view (Pins n) g v)) refl refl refl refl refl refl refl refl refl free
+      closed_kept Already g x =
+          kept_all (record s {
+            closed =
+                set s.closed g (shut_by Already shut);
+          }) (counted (g + 2) x (row.close_view Already g v)) refl refl refl refl refl refl refl refl refl free
 
   -- in the words of the code
-  pub pins_to : (slot : Slot) (p : Pinned) (q : ℕ) (hold' work' : Option ℕ) → q ≡ stages f → MayPin slot (actor_at f s v es cut) → IsNumber q p s.number
+  pub pins_to : (slot : Slot) (p : Pinned) (q : ℕ) (hold' work' : Option ℕ) → q ≡ stages f
+      → MayPin slot (actor_at f s v es cut) → IsNumber q p s.number
       → hold' ≡ pinned_hold slot p s.hold → work' ≡ pinned_work slot p s.work
       → Step (call.pin slot [] p) (record s { hold = hold'; work = work' })
-  pins_to slot p q hold' work' e free_slot n h k' = subst (λ x. Step (call.pin slot [] p) (record s { hold = x; work = work' })) (sym h)
+  pins_to slot p q hold' work' e free_slot n h k' =
+      subst (λ x. Step (call.pin slot [] p) (record s { hold = x; work = work' })) (sym h)
       (subst (λ x. Step (call.pin slot [] p) (record s { hold = pinned_hold slot p s.hold; work = x })) (sym k')
       (pins slot p free_slot (subst (λ x. IsNumber x p s.number) e n)))
 
-  pub unpins_to : (slot : Slot) (hold' work' : Option ℕ) → MayUnpin slot (actor_at f s v es cut) → hold' ≡ freed_hold slot s.hold
+  pub unpins_to : (slot : Slot) (hold' work' : Option ℕ) → MayUnpin slot (actor_at f s v es cut)
+      → hold' ≡ freed_hold slot s.hold
       → work' ≡ freed_work slot s.work → Step (call.unpin slot) (record s { hold = hold'; work = work' })
-  unpins_to slot hold' work' full h k' = subst (λ x. Step (call.unpin slot) (record s { hold = x; work = work' })) (sym h)
-      (subst (λ x. Step (call.unpin slot) (record s { hold = freed_hold slot s.hold; work = x })) (sym k') (unpins slot full))
+  unpins_to slot hold' work' full h k' =
+      subst (λ x. Step (call.unpin slot) (record s { hold = x; work = work' })) (sym h)
+      (subst (λ x. Step (call.unpin slot) (record s {
+        hold = freed_hold slot s.hold;
+        work =
+            x;
+      })) (sym k') (unpins slot full))
 
   pub number_top : s.number ≤ stages f + 1
   number_top = facts.number_top f s v st.holding
 
-  pub closes_to : (g : ℕ) (c : Closed) (shut shut' : Bool) (p : ℕ) → shut ≡ get_or s.closed g shut → p ≡ pins_of s.hold s.work g → p ≤ 2
-      → c ≡ row.close_answer (9223372036854775808 * truth shut + p) → MayClose g (actor_at f s v es cut) → shut' ≡ shut_by c shut
+  pub closes_to : (g : ℕ) (c : Closed) (shut shut' : Bool) (p : ℕ) → shut ≡ get_or s.closed g shut
+      → p ≡ pins_of s.hold s.work g → p ≤ 2
+      → c ≡ row.close_answer (9223372036854775808 * truth shut + p) → MayClose g (actor_at f s v es cut)
+      → shut' ≡ shut_by c shut
       → Step (call.close g c) (record s { closed = set s.closed g shut' })
-  closes_to g c shut shut' p bit pins few answer m is = subst (λ x. Step (call.close g c) (record s { closed = set s.closed g x })) (sym is)
-      (closes g c shut p (get_or_read s.closed g shut (let l = long in let y = m.0 in omega arith) bit false) pins few answer m)
+  closes_to g c shut shut' p bit pins few answer m is =
+      subst (λ x. Step (call.close g c) (record s { closed = set s.closed g x })) (sym is)
+      (closes g c shut p (get_or_read s.closed g shut (let l = long in let y = m.0 in
+      omega arith) bit false) pins few answer m)
 
   pub close_low : (g : ℕ) → MayClose g (actor_at f s v es cut) → g < length s.closed
   close_low g m = let l = long in let y = m.0 in omega arith

@@ -1,5 +1,6 @@
 -- The words and slots of what is stored.
-use Rattle.std.proofs.Common.{◌≡◌, ℕ, ◌+◌, ◌*◌, ◌<◌, Bool, true, false, cond, eqb, List, [], ◌∷◌, ◌++◌, length, get_or, set}
+use Rattle.std.proofs.Common.{◌≡◌, ℕ, ◌+◌, ◌*◌, ◌<◌, Bool, true, false, cond, eqb, List, [], ◌∷◌, ◌++◌, length, get_or}
+use Rattle.std.proofs.Common.{set}
 use Rattle.std.proofs.Common.{Option, sym, refl, ap, ◌∙◌, arith}
 use Rattle.std.proofs.lemmas.List.{set-set, set-get_or, set-append_left, get_or_append_left}
 use Rattle.mf_machine.specs.declared.view.View.{View}
@@ -52,7 +53,8 @@ module _ (f : Facts) (s : Stored) (v : View) (long : length s.closed ≡ stages 
   wide = pins_length (pins_of s.hold s.work) 0 s.closed ∙ long
 
   pub name_get : (n : ℕ) → word_of now (name_word (file f) n) ≡ resting.word_of (get_or s.names n rest.Unborn)
-  name_get n = let w = wide in ap (λ i. get_or now.words i 0) (let d : name_word (file f) n ≡ stages f + n + 2 = omega arith in d)
+  name_get n = let w = wide in
+      ap (λ i. get_or now.words i 0) (let d : name_word (file f) n ≡ stages f + n + 2 = omega arith in d)
       ∙ (get_two s.number (truth s.right) (pins ++ words_of s.names) (stages f + n) 0
       ∙ (get_right pins (words_of s.names) (stages f + n) n 0 (omega arith) ∙ words_at s.names n))
 
@@ -61,7 +63,8 @@ module _ (f : Facts) (s : Stored) (v : View) (long : length s.closed ≡ stages 
 
   name_set : (n x : ℕ) → set now.words (name_word (file f) n) x
       ≡ s.number ∷ truth s.right ∷ pins ++ set (words_of s.names) n x
-  name_set n x = let w = wide in ap (λ i. set now.words i x) (let d : name_word (file f) n ≡ stages f + n + 2 = omega arith in d)
+  name_set n x = let w = wide in
+      ap (λ i. set now.words i x) (let d : name_word (file f) n ≡ stages f + n + 2 = omega arith in d)
       ∙ (set_two s.number (truth s.right) (pins ++ words_of s.names) (stages f + n) x
       ∙ ap (λ l. s.number ∷ truth s.right ∷ l) (set_right pins (words_of s.names) (stages f + n) n x (omega arith)))
 
@@ -73,7 +76,9 @@ module _ (f : Facts) (s : Stored) (v : View) (long : length s.closed ≡ stages 
     hands = λ _. away;
   }
   named n r v' = λ j. record {
-    words = (ap (λ l. s.number ∷ truth s.right ∷ pins ++ l) (words_set s.names n r) ∙ sym (name_set n (resting.word_of r))) j;
+    words =
+        (ap (λ l. s.number ∷ truth s.right ∷ pins ++ l) (words_set s.names n r)
+        ∙ sym (name_set n (resting.word_of r))) j;
     homes = homes_set s.names n r j;
     views = v' ∷ [];
     hands = λ _. away;
@@ -134,7 +139,8 @@ module _ (f : Facts) (s : Stored) (v : View) (long : length s.closed ≡ stages 
       ≡ world (record s { hold = hold'; work = work'; closed = set s.closed g b }) v'
   pins_are hold' work' g x b v' l same at = let z : 0 + g ≡ g = omega arith in λ j. record {
     words = (pin_set g x l ∙ ap (λ ps. s.number ∷ truth s.right ∷ ps ++ words_of s.names)
-        (sym (pins_set (pins_of s.hold s.work) (pins_of hold' work') 0 g x s.closed b l (λ i ne. same i (λ e. ne (e ∙ sym z)))
+        (sym (pins_set (pins_of s.hold s.work) (pins_of hold' work') 0 g x s.closed b l (λ i ne. same i (λ e. ne (e
+        ∙ sym z)))
         (at ∙ ap (λ i. 9223372036854775808 * truth b + pins_of hold' work' i) (sym z))))) j;
     homes = homes_of s.names;
     views = v' ∷ [];

@@ -6,7 +6,7 @@ use Rattle.mf_machine.specs.declared.answer.State.TheVariants as state
 use Rattle.mf_machine.specs.Steps as row
 use Rattle.mf_places.specs.declared.Name.{Name}
 use Rattle.mf_places.specs.Names.{count_of}
-use Rattle.mf_places.specs.Rows.{number_of}
+use Rattle.mf_places.specs.Numbers.{number_of}
 use Rattle.mf_vault.specs.declared.answers.Answer.{Answer}
 use Rattle.mf_vault.specs.declared.answers.Entry.{Entry}
 use Rattle.mf_vault.specs.declared.answers.Entry.TheVariants as entry

@@ -5,7 +5,7 @@ use Rattle.std.proofs.lemmas.List.{length-replicate, get_or_read}
 use Rattle.mf_places.specs.declared.Name.{Name}
 use Rattle.mf_places.specs.Facts.{BookFacts, IsBook}
 use Rattle.mf_places.specs.Names.{count_of, name_at}
-use Rattle.mf_places.specs.Rows.{number_of}
+use Rattle.mf_places.specs.Numbers.{number_of}
 use Rattle.mf_places.proofs.Names.{IsNumber-at}
 use Rattle.mf_plain.specs.declared.known.Told.{Told}
 use Rattle.mf_vault.specs.declared.answers.Rest.{Rest}

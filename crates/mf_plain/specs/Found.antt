@@ -5,7 +5,7 @@ use Rattle.mf_machine.specs.declared.answer.State.TheVariants as state
 use Rattle.mf_machine.specs.Steps.{see_answer}
 use Rattle.mf_places.specs.declared.Name.{Name}
 use Rattle.mf_places.specs.Placement.{server_of}
-use Rattle.mf_places.specs.Rows.{number_of}
+use Rattle.mf_places.specs.Numbers.{number_of}
 use Rattle.mf_places.specs.Servers.{IsIn}
 use Rattle.mf_vault.specs.declared.answers.Got.{Got}
 use Rattle.mf_vault.specs.declared.answers.Got.TheVariants as got

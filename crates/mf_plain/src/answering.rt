@@ -6,7 +6,7 @@ ghost use Rattle.mf_machine.specs.Counts.{truth};
 ghost use Rattle.mf_machine.specs.Steps.{see_answer, close_answer, drop_answer, lose_answer};
 ghost use Rattle.mf_machine.specs.Words.{closed_bit, removed_of};
 ghost use Rattle.mf_places.specs.Names.{HasName, count_of};
-ghost use Rattle.mf_places.specs.Rows.{number_of};
+ghost use Rattle.mf_places.specs.Numbers.{number_of};
 ghost use Rattle.mf_vault.specs.Actor.{state_answer, change_answer, get_entry};
 ghost use Rattle.mf_vault.specs.Facts.{place};
 ghost use Rattle.mf_vault.specs.Answers.{IsNumber, was_dropped, was_lost};

@@ -3,7 +3,7 @@ ghost use Rattle.std.specs.Prelude.{◌≡◌, ◌≢◌, ◌+◌, ◌<◌, ◌�
 ghost use Rattle.mf_machine.specs.Steps.{see_answer};
 ghost use Rattle.mf_places.specs.Names.{HasName};
 ghost use Rattle.mf_places.specs.Placement.{server_of};
-ghost use Rattle.mf_places.specs.Rows.{number_of};
+ghost use Rattle.mf_places.specs.Numbers.{number_of};
 ghost use Rattle.mf_places.specs.Servers.{IsIn};
 ghost use Rattle.mf_vault.specs.Resting.{word_of};
 ghost use Rattle.mf_vault.specs.declared.answers.Rest.TheVariants as rest;

@@ -2,7 +2,7 @@
 ghost use Rattle.std.specs.Prelude.{◌≡◌, ◌<◌, ℕ, List, length, false};
 ghost use Rattle.std.specs.Prelude.{slice_index_or, All, IfOk, OnErr};
 ghost use Rattle.mf_places.specs.Names.{HasName};
-ghost use Rattle.mf_places.specs.Rows.{number_of};
+ghost use Rattle.mf_places.specs.Numbers.{number_of};
 ghost use Rattle.mf_vault.specs.declared.answers.Rest.TheVariants as rest;
 
 use crate::known::Told;

@@ -1,5 +1,5 @@
 use Rattle.std.proofs.Common.{◌≡◌, ℕ, List, IfOk, OnErr, get_or, subst}
-use Rattle.mf_places.specs.Rows.{number_of}
+use Rattle.mf_places.specs.Numbers.{number_of}
 use Rattle.mf_vault.specs.declared.answers.Rest.{Rest}
 use Rattle.mf_vault.specs.declared.answers.Rest.TheVariants as rest
 use Rattle.mf_plain.specs.Resting.{Resting}

@@ -2,3 +2,5 @@ pub mod Doing
 pub mod Entering
 pub mod Held
 pub mod Counted
+pub mod Once
+pub mod Growing

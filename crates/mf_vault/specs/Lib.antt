@@ -5,3 +5,4 @@ pub mod May
 pub mod Licence
 pub mod Counting
 pub mod Resting
+pub mod Laws

@@ -1,0 +1,9 @@
+use Rattle.std.proofs.Common.{◌≡◌, ◌++◌, take, flat_map}
+use Rattle.mf_script.specs.Printing.{names_in}
+use Rattle.mf_report.specs.Lines.{ended}
+use Rattle.mf_report.specs.Commands.{part_line}
+use Rattle.mf_report.proofs.commands.push_parts.Given as goal
+
+abbrev pub invariant-loop-part : goal.invariant-loop-part
+invariant-loop-part l =
+    l.out.items ≡ l.initial.out.items ++ flat_map (λ part. ended (part_line (names_in l.files) l.place part)) (take l.part-index l.parts)

@@ -1,0 +1,45 @@
+-- Commands that were done, as they are printed.
+use Rattle.std.specs.Prelude.{ℕ, Bool, false, List, ◌++◌, codes}
+use Rattle.std.specs.List.{flat_map}
+use Rattle.mf_text.specs.Decimal.{decimal_text}
+use Rattle.mf_script.specs.declared.scripts.Act.{Act}
+use Rattle.mf_script.specs.declared.scripts.Act.TheVariants as act
+use Rattle.mf_script.specs.Printing.{name_at}
+use Rattle.mf_client.specs.declared.done.Place.{Place}
+use Rattle.mf_client.specs.declared.done.Part.{Part}
+use Rattle.mf_client.specs.declared.done.Done.{Done}
+use Rattle.mf_report.specs.Lines.{ended, pointed}
+use Rattle.mf_report.specs.Counts.{io_text}
+use Rattle.mf_report.specs.Outcomes.{change_text, outcome_text}
+
+-- phase, client and command, from 1, with points between them
+abbrev pub place_text : Place → List ℕ
+place_text place = decimal_text place.phase ++ pointed place.client ++ pointed place.command
+
+-- a command, where the files have these names
+abbrev pub act_text : List (List ℕ) → Act → List ℕ
+act_text names (act.Create file) = codes "create " ++ name_at names file
+act_text names (act.Read file away) = codes "read " ++ name_at names file
+
+-- whether the operations of a command count among those of conversions
+abbrev pub converts : Act → Bool
+converts (act.Create file) = false
+converts (act.Read file away) = false
+
+-- a command, and what came of it
+abbrev pub command_text : List (List ℕ) → Done → List ℕ
+command_text names done = act_text names done.act ++ codes ": " ++ outcome_text done.outcome
+
+-- the line of a command: where it stands, the command, what came of it, and the operations that it took
+abbrev pub done_line : List (List ℕ) → Done → List ℕ
+done_line names done = place_text done.place ++ codes " " ++ command_text names done ++ codes " " ++ io_text done.io
+
+-- the line of a part of the command at this place
+abbrev pub part_line : List (List ℕ) → Place → Part → List ℕ
+part_line names place part =
+    place_text place ++ codes " " ++ name_at names part.file ++ codes " " ++ change_text part.change
+
+-- the lines of a command: its own, and then one for each of its parts
+abbrev pub done_text : List (List ℕ) → Done → List ℕ
+done_text names done =
+    ended (done_line names done) ++ flat_map (λ part. ended (part_line names done.place part)) done.parts

@@ -1,0 +1,45 @@
+-- Counts of chunk operations: their sums, and their text.
+use Rattle.std.specs.Prelude.{ℕ, ◌^◌, ◌<◌, List, [], ◌∷◌, ◌++◌, codes}
+use Rattle.std.specs.List.{sum_by}
+use Rattle.mf_vault.specs.declared.io.Io.{Io}
+use Rattle.mf_report.specs.Lines.{numbers_text}
+
+-- the seven numbers, in the order in which they are printed
+abbrev pub io_numbers : Io → List ℕ
+io_numbers io = io.pieces ∷ io.copies ∷ io.parities ∷ io.misses ∷ io.writes ∷ io.probes ∷ io.drops ∷ []
+
+-- the word `io`, and the seven numbers, each behind a space
+abbrev pub io_text : Io → List ℕ
+io_text io = codes "io" ++ numbers_text (io_numbers io)
+
+-- each number is below 2 ^ 32
+pub record IsSmall (io : Io) : Type 0 where
+  pub pieces : io.pieces < 2 ^ 32
+  pub copies : io.copies < 2 ^ 32
+  pub parities : io.parities < 2 ^ 32
+  pub misses : io.misses < 2 ^ 32
+  pub writes : io.writes < 2 ^ 32
+  pub probes : io.probes < 2 ^ 32
+  pub drops : io.drops < 2 ^ 32
+
+-- the sums, kind by kind
+abbrev pub total_io : List Io → Io
+total_io ios = record {
+  pieces = sum_by (λ (io : Io). io.pieces) ios;
+  copies = sum_by (λ (io : Io). io.copies) ios;
+  parities = sum_by (λ (io : Io). io.parities) ios;
+  misses = sum_by (λ (io : Io). io.misses) ios;
+  writes = sum_by (λ (io : Io). io.writes) ios;
+  probes = sum_by (λ (io : Io). io.probes) ios;
+  drops = sum_by (λ (io : Io). io.drops) ios;
+}
+
+-- the sums of each kind fit in 64 bits
+pub record SumsFit (ios : List Io) : Type 0 where
+  pub pieces : (total_io ios).pieces < 2 ^ 64
+  pub copies : (total_io ios).copies < 2 ^ 64
+  pub parities : (total_io ios).parities < 2 ^ 64
+  pub misses : (total_io ios).misses < 2 ^ 64
+  pub writes : (total_io ios).writes < 2 ^ 64
+  pub probes : (total_io ios).probes < 2 ^ 64
+  pub drops : (total_io ios).drops < 2 ^ 64

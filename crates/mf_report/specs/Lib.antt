@@ -1,0 +1,9 @@
+pub mod Lines
+pub mod Names
+pub mod Counts
+pub mod Outcomes
+pub mod Commands
+pub mod Report
+pub mod Writing
+pub mod Faults
+pub mod Verdicts

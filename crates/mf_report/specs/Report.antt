@@ -1,0 +1,27 @@
+-- The report of a run: the lines of each command that was done, and the sums of their counts.
+use Rattle.std.specs.Prelude.{ℕ, List, ◌++◌, codes, map, filter}
+use Rattle.std.specs.List.{flat_map}
+use Rattle.mf_vault.specs.declared.io.Io.{Io}
+use Rattle.mf_script.specs.Meaning.{Script}
+use Rattle.mf_script.specs.Printing.{names_in}
+use Rattle.mf_client.specs.declared.done.Done.{Done}
+use Rattle.mf_report.specs.Lines.{ended}
+use Rattle.mf_report.specs.Counts.{total_io, io_text}
+use Rattle.mf_report.specs.Commands.{converts, done_text}
+
+-- what these commands took, in all
+abbrev pub took : List Done → Io
+took done = total_io (map (λ (d : Done). d.io) done)
+
+-- those commands that convert
+abbrev pub conversions : List Done → List Done
+conversions done = filter (λ (d : Done). converts d.act) done
+
+-- the text of a report
+abbrev pub report_text : Script → List Done → List ℕ
+report_text script done =
+    ended (codes "report 1")
+    ++ flat_map (done_text (names_in script.files)) done
+    ++ ended (codes "total " ++ io_text (took done))
+    ++ ended (codes "converts " ++ io_text (took (conversions done)))
+    ++ ended (codes "end")

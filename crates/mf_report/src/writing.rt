@@ -1,0 +1,125 @@
+//! The report of a run.
+
+ghost use Rattle.std.specs.Prelude.{◌≡◌, ◌≤◌, ◌++◌, codes, map, length, IfOk, IfErr, OnOk};
+ghost use Rattle.std.specs.List.{All};
+ghost use Rattle.std.specs.Io.KnownBytes.{Appends};
+ghost use Rattle.mf_client.specs.declared.done.Done.{Done};
+ghost use Rattle.mf_report.specs.Lines.{ended};
+ghost use Rattle.mf_report.specs.Counts.{io_text, IsSmall};
+ghost use Rattle.mf_report.specs.Report.{took, conversions, report_text};
+ghost use Rattle.mf_report.specs.Writing.{Leaves};
+
+use crate::commands::{converts, push_commands};
+use crate::counts::{push_io, total};
+use mf_client::Done;
+use mf_io::{Sink, write_all};
+use mf_script::Script;
+use mf_vault::Io;
+use std::alloc::{AllocError, Global};
+
+/// Why a report wasn't written whole.
+#[derive(Clone, Copy, Debug, PartialEq, Eq)]
+pub enum ReportFault {
+    /// A write failed.
+    Sink,
+    /// Memory ran out.
+    Memory,
+}
+
+// What each of the commands took.
+fn ios_of(alloc: Global, commands: &[Done]) -> Result<Vec<Io>, AllocError>
+    ensures { IfOk result (λ ios. ios.items ≡ map (λ (d : Done). d.io) commands.now) }
+{
+    commands.iter().map(|done| done.io).collect(alloc)
+}
+
+// What each of the commands took that convert.
+fn conversion_ios_of(alloc: Global, commands: &[Done]) -> Result<Vec<Io>, AllocError>
+    ensures { IfOk result
+        (λ ios. ios.items ≡ map (λ (d : Done). d.io) (conversions commands.now)) }
+{
+    let mut ios = Vec::new(alloc);
+    for done in commands {
+        if converts(&done.act) {
+            ios.push(done.io)?;
+        }
+    }
+    Ok(ios)
+}
+
+// What the commands took, in all.
+fn took(alloc: Global, commands: &[Done]) -> Result<Io, AllocError>
+    requires few { length commands.now ≤ 4096 }
+    requires small { All (λ (d : Done). IsSmall d.io) commands.now }
+    ensures { IfOk result (λ io. io ≡ took commands.now) }
+{
+    let ios = ios_of(alloc, commands)?;
+    Ok(total(&ios))
+}
+
+// What the commands took that convert, in all.
+fn conversions_took(alloc: Global, commands: &[Done]) -> Result<Io, AllocError>
+    requires few { length commands.now ≤ 4096 }
+    requires small { All (λ (d : Done). IsSmall d.io) commands.now }
+    ensures { IfOk result (λ io. io ≡ took (conversions commands.now)) }
+{
+    let ios = conversion_ios_of(alloc, commands)?;
+    Ok(total(&ios))
+}
+
+// A line of counts behind a word.
+#[tactic(auto, using(std::proofs::lemmas::List::append_assoc))]
+fn push_total(out: &mut Vec<u8>, word: &[u8], io: Io) -> Result<(), AllocError>
+    ensures { OnOk result (out.new.items ≡ out.old.items ++ ended (word.now ++ io_text io)) }
+{
+    out.extend_from_slice(word)?;
+    push_io(out, io)?;
+    out.push(b'\n')?;
+    Ok(())
+}
+
+// The report's bytes.
+#[tactic(auto, using(std::proofs::lemmas::List::append_assoc))]
+fn report_bytes(alloc: Global, script: &Script, commands: &[Done]) -> Result<Vec<u8>, AllocError>
+    requires few { length commands.now ≤ 4096 }
+    requires small { All (λ (d : Done). IsSmall d.io) commands.now }
+    ensures { IfOk result (λ text. text.items ≡ report_text script.now commands.now) }
+{
+    let all = took(alloc, commands)?;
+    let converted = conversions_took(alloc, commands)?;
+    let mut out = Vec::from_slice(alloc, b"report 1\n")?;
+    push_commands(&mut out, script.files(), commands)?;
+    push_total(&mut out, b"total ", all)?;
+    push_total(&mut out, b"converts ", converted)?;
+    out.extend_from_slice(b"end\n")?;
+    Ok(out)
+}
+
+/// Writes the report of these commands of the script, in their order: one line for each, with what came of it and the
+/// operations on chunks that it took, one line for each of its parts, and the sums of the operations.
+///
+/// # Errors
+/// `Sink` where a write failed: the sink's count has risen, and a front of the report was written. `Memory` where
+/// memory ran out; nothing was written then.
+pub fn report<K: Sink>(
+    alloc: Global,
+    sink: &mut K,
+    script: &Script,
+    done: &[Done],
+) -> Result<(), ReportFault>
+    requires few { length done.now ≤ 4096 }
+    requires small { All (λ (d : Done). IsSmall d.io) done.now }
+    ensures text { OnOk result
+        (Appends (K.written sink.old) (K.written sink.new) (report_text script.now done.now)) }
+    ensures count { OnOk result (K.faults sink.new ≡ K.faults sink.old) }
+    ensures fault { IfErr result (λ fault. Leaves fault (report_text script.now done.now)
+        (K.written sink.old) (K.written sink.new) (K.faults sink.old) (K.faults sink.new)) }
+{
+    let Ok(text) = report_bytes(alloc, script, done) else {
+        return Err(ReportFault::Memory);
+    };
+    match write_all(sink, &text) {
+        Ok(()) => Ok(()),
+        Err(_) => Err(ReportFault::Sink),
+    }
+}

@@ -4,7 +4,7 @@ ghost use Rattle.std.specs.List.{range_with_len};
 ghost use Rattle.mf_code.specs.Chunks.{chunks};
 ghost use Rattle.mf_places.specs.Facts.{BookFacts, chunks_of};
 ghost use Rattle.mf_shape.specs.Stages.{width_at};
-ghost use Rattle.mf_stripe.specs.Block.{rows};
+ghost use Rattle.mf_kernel.specs.Dots.{rows};
 ghost use Rattle.mf_vault.specs.Facts.{cell};
 ghost use Rattle.mf_convert.specs.Conditions.{IsOfFamily};
 ghost use Rattle.mf_convert.specs.Cells.{IsFirst, AreMade, parities_of, first_stripes, rows_of};

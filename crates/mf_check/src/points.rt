@@ -1,6 +1,7 @@
 //! The faults of points alone.
 ghost use Rattle.std.specs.Prelude.{◌≡◌, ◌≢◌, ℕ, ◌+◌, ◌<◌, ◌≤◌, ◌⊎◌, length};
 ghost use Rattle.std.specs.Prelude.{slice_index, MatchOption};
+ghost use Rattle.mf_shape.specs.declared.TheConstants.{MAX_PARITIES};
 ghost use Rattle.mf_check.specs.Families.{ArePoints};
 ghost use Rattle.mf_check.specs.Faults.{IsPointFault, IsFirstZero, IsFirstPair};
 
@@ -8,7 +9,7 @@ use crate::FamilyFault;
 
 /// The first point that is 0.
 fn first_zero(points: &[u8]) -> Option<u32>
-    requires { length points.now ≤ 4 }
+    requires { length points.now ≤ MAX_PARITIES }
     ensures { MatchOption result
         ((i : ℕ) → i < length points.now → slice_index points.now i ≢ 0)
         (IsFirstZero points.now) }
@@ -41,7 +42,7 @@ fn next_equal(points: &[u8], i: usize) -> Option<usize>
 
 /// The first pair of points that are equal.
 fn first_pair(points: &[u8]) -> Option<(u32, u32)>
-    requires { length points.now ≤ 4 }
+    requires { length points.now ≤ MAX_PARITIES }
     ensures { MatchOption result
         ((a b : ℕ) → a < b → b < length points.now
         → slice_index points.now a ≢ slice_index points.now b)
@@ -57,7 +58,7 @@ fn first_pair(points: &[u8]) -> Option<(u32, u32)>
 
 /// The fault of points of which there are to be `count`, if they have one.
 pub fn point_fault(points: &[u8], count: u32) -> Option<FamilyFault>
-    requires { count ≤ 4 }
+    requires { count ≤ MAX_PARITIES }
     ensures { MatchOption result (ArePoints count points.now) (IsPointFault count points.now) }
 {
     if points.len() != count as usize {

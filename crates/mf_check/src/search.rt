@@ -1,6 +1,7 @@
 //! The first set of places that isn't decodable, in the order of the sets.
 ghost use Rattle.std.specs.Prelude.{◌≡◌, ◌≢◌, ℕ, ◌+◌, ◌<◌, ◌≤◌, [], ◌∷◌, length, slice_index};
 ghost use Rattle.std.specs.Prelude.{vec_len, IfOk};
+ghost use Rattle.mf_shape.specs.declared.TheConstants.{MAX_WIDTH, MAX_PARITIES};
 ghost use Rattle.mf_check.specs.Search.{IsFront, SearchAnswer, StageAnswer};
 
 use crate::sets::kernel_at;
@@ -18,8 +19,8 @@ pub fn first_continued(
     kept: &mut Vec<u32>,
     from: u32,
 ) -> Result<Option<KernelList>, AllocError>
-    requires few { length points.now ≤ 4 }
-    requires narrow { width ≤ 64 }
+    requires few { length points.now ≤ MAX_PARITIES }
+    requires narrow { width ≤ MAX_WIDTH }
     requires front { IsFront (width + length points.now) (length points.now) from places.old.items }
     ensures { IfOk result (SearchAnswer points.now width places.old.items from places.new.items) }
 {
@@ -47,9 +48,9 @@ pub fn first_undecodable(
     points: &[u8],
     width: u32,
 ) -> Result<Option<(Vec<u32>, KernelList)>, AllocError>
-    requires few { length points.now ≤ 4 }
+    requires few { length points.now ≤ MAX_PARITIES }
     requires some { 1 ≤ length points.now }
-    requires narrow { width ≤ 64 }
+    requires narrow { width ≤ MAX_WIDTH }
     requires wide { 1 ≤ width }
     requires nonzero { (i : ℕ) → i < length points.now → slice_index points.now i ≢ 0 }
     ensures { IfOk result (StageAnswer points.now width) }

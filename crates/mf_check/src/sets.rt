@@ -3,6 +3,7 @@ ghost use Rattle.std.specs.Prelude.{◌≡◌, ◌≢◌, ℕ, ◌+◌, ◌-◌,
 ghost use Rattle.std.specs.Prelude.{length, map, drop, slice_index, OnOk, IfOk};
 ghost use Rattle.std.specs.Bool.{OnTrue, OnFalse};
 ghost use Rattle.mf_code.specs.Decodable.{IsPlaceSet};
+ghost use Rattle.mf_shape.specs.declared.TheConstants.{MAX_WIDTH, MAX_PARITIES};
 ghost use Rattle.mf_erasure.specs.Erasure.{others_from};
 ghost use Rattle.mf_check.specs.Search.{SetAnswer, IsDataFront};
 
@@ -71,8 +72,8 @@ pub fn kernel_at(
     places: &[u32],
     kept: &mut Vec<u32>,
 ) -> Result<Option<KernelList>, AllocError>
-    requires few { length points.now ≤ 4 }
-    requires narrow { width ≤ 64 }
+    requires few { length points.now ≤ MAX_PARITIES }
+    requires narrow { width ≤ MAX_WIDTH }
     requires set { IsPlaceSet (width + length points.now) (length points.now) places.now }
     ensures { IfOk result (SetAnswer points.now width places.now) }
 {

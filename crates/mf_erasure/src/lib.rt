@@ -8,14 +8,14 @@ ghost use Rattle.std.specs.Bool.{OnTrue, OnFalse};
 ghost use Rattle.mf_erasure.specs.Erasure.{entry, IsErasure, IsPlaces, DecodableByMatrix, SetsAreErasures};
 
 use mf_field::pow;
-use mf_matrix::Matrix;
+use mf_matrix::{MAX_SIDE, Matrix};
 
 /// The matrix of an erasure: a row for each kept parity, a column for each lost data place, and as entry the
 /// parity's point to the power of the place. `kept` has the parities' numbers, each with a point. No more than
 /// eight are lost or kept.
 pub fn erasure_matrix(points: &[u8], lost: &[u32], kept: &[u32]) -> Matrix
-    requires few_rows { length kept.now ≤ 8 }
-    requires few_columns { length lost.now ≤ 8 }
+    requires few_rows { length kept.now ≤ MAX_SIDE }
+    requires few_columns { length lost.now ≤ MAX_SIDE }
     requires known { (i : ℕ) → i < length kept.now → slice_index kept.now i < length points.now }
     ensures size { (result.rows ≡ length kept.now) × (result.columns ≡ length lost.now) }
     ensures entries { (i j : ℕ) → i < length kept.now → j < length lost.now

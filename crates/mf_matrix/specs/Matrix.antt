@@ -1,5 +1,6 @@
 -- What a matrix shows.
 use Rattle.std.specs.Prelude.{ℕ, ◌≡◌, ◌+◌, ◌*◌, ◌<◌, ◌≤◌, List, length, slice_index}
+use Rattle.mf_matrix.specs.declared.TheConstants.{MAX_SIDE}
 
 -- A matrix, its entries row by row.
 pub record Grid : Type 0 where
@@ -7,10 +8,10 @@ pub record Grid : Type 0 where
   pub columns : ℕ
   pub entries : List ℕ
 
--- At most eight rows and eight columns of bytes.
+-- A few rows and columns of bytes.
 pub record IsGrid (m : Grid) : Type 0 where
-  pub few_rows : m.rows ≤ 8
-  pub few_columns : m.columns ≤ 8
+  pub few_rows : m.rows ≤ MAX_SIDE
+  pub few_columns : m.columns ≤ MAX_SIDE
   pub filled : length m.entries ≡ m.rows * m.columns
   pub bytes : (k : ℕ) → slice_index m.entries k < 256
 

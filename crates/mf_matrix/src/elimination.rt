@@ -11,16 +11,22 @@ ghost use Rattle.mf_matrix.specs.Matrix.{IsGrid, entry};
 ghost use Rattle.mf_matrix.specs.Elimination.{coefficient, SameSolutions, IsSolvedBelow, AddsTimes};
 ghost use Rattle.mf_matrix.specs.Elimination.{Scales, IsSystemOf, IsStuckAt, IsLeading, shown_at, EndsAt};
 
-use crate::{KernelList, Matrix};
+use crate::{KernelList, MAX_SIDE, Matrix};
 use mf_field::{add, inv, mul};
 use std::alloc::{AllocError, Global};
 
 /// The coefficients of one equation, those of x from index 0 on, and those of y after them.
-pub type Equation = [u8; 16];
+pub type Equation = [u8; MAX_UNKNOWNS];
+
+/// As many equations as the greatest matrix has rows.
+pub type Equations = [Equation; MAX_SIDE];
+
+/// An equation has a coefficient for each x and for each y.
+const MAX_UNKNOWNS: usize = 2 * MAX_SIDE;
 
 /// The equation with a multiple of another one added, in its first coefficients.
 fn plus_times(equation: Equation, unknowns: usize, factor: u8, other: Equation) -> Equation
-    requires { unknowns ≤ 16 }
+    requires { unknowns ≤ MAX_UNKNOWNS }
     ensures added { (j : ℕ) → j < unknowns → slice_index result j
         ≡ bit_xor (slice_index equation j) (times factor (slice_index other j)) }
     ensures rest { (j : ℕ) → unknowns ≤ j → slice_index result j ≡ slice_index equation j }
@@ -34,7 +40,7 @@ fn plus_times(equation: Equation, unknowns: usize, factor: u8, other: Equation) 
 
 /// The equation with its first coefficients multiplied.
 fn multiple(equation: Equation, unknowns: usize, factor: u8) -> Equation
-    requires { unknowns ≤ 16 }
+    requires { unknowns ≤ MAX_UNKNOWNS }
     ensures multiplied { (j : ℕ) → j < unknowns
         → slice_index result j ≡ times factor (slice_index equation j) }
     ensures rest { (j : ℕ) → unknowns ≤ j → slice_index result j ≡ slice_index equation j }
@@ -47,15 +53,15 @@ fn multiple(equation: Equation, unknowns: usize, factor: u8) -> Equation
 }
 
 /// The system that says that the matrix times x is y.
-pub fn equations_of(matrix: &Matrix) -> [Equation; 8]
+pub fn equations_of(matrix: &Matrix) -> Equations
     requires { matrix.now.rows ≡ matrix.now.columns }
     ensures says { IsSystemOf matrix.now.columns (entry matrix.now) (coefficient result) }
     ensures unsolved { IsSolvedBelow matrix.now.columns (coefficient result) 0 }
 {
     let size = matrix.columns;
-    let mut equations = [[0; 16]; 8];
+    let mut equations = [[0; MAX_UNKNOWNS]; MAX_SIDE];
     for i in 0..size {
-        let mut equation = [0; 16];
+        let mut equation = [0; MAX_UNKNOWNS];
         for j in 0..size {
             equation[j as usize] = matrix.at(i, j);
         }
@@ -66,8 +72,8 @@ pub fn equations_of(matrix: &Matrix) -> [Equation; 8]
 }
 
 /// The first equation from `column` on that has the unknown of this column.
-fn equation_with(equations: &[Equation; 8], size: usize, column: usize) -> Option<usize>
-    requires { size ≤ 8 }
+fn equation_with(equations: &Equations, size: usize, column: usize) -> Option<usize>
+    requires { size ≤ MAX_SIDE }
     ensures some { IfSome result (λ i. (column ≤ i) × (i < size)
         × (coefficient equations.now i column ≢ 0)) }
     ensures none { IfNone result (IsStuckAt size (coefficient equations.now) column) }
@@ -81,10 +87,10 @@ fn equation_with(equations: &[Equation; 8], size: usize, column: usize) -> Optio
 }
 
 /// Adds a multiple of equation `p` to equation `i`.
-fn add_to(equations: &mut [Equation; 8], unknowns: usize, i: usize, factor: u8, p: usize)
-    requires narrow { unknowns ≤ 16 }
-    requires i_in { i < 8 }
-    requires p_in { p < 8 }
+fn add_to(equations: &mut Equations, unknowns: usize, i: usize, factor: u8, p: usize)
+    requires narrow { unknowns ≤ MAX_UNKNOWNS }
+    requires i_in { i < MAX_SIDE }
+    requires p_in { p < MAX_SIDE }
     ensures { AddsTimes unknowns (coefficient equations.old) (coefficient equations.new)
         i factor p }
 {
@@ -93,18 +99,18 @@ fn add_to(equations: &mut [Equation; 8], unknowns: usize, i: usize, factor: u8, 
 }
 
 /// Multiplies equation `i`.
-fn scale(equations: &mut [Equation; 8], unknowns: usize, i: usize, factor: u8)
-    requires narrow { unknowns ≤ 16 }
-    requires i_in { i < 8 }
+fn scale(equations: &mut Equations, unknowns: usize, i: usize, factor: u8)
+    requires narrow { unknowns ≤ MAX_UNKNOWNS }
+    requires i_in { i < MAX_SIDE }
     ensures { Scales unknowns (coefficient equations.old) (coefficient equations.new) i factor }
 {
     equations[i] = multiple(equations[i], unknowns, factor);
 }
 
 /// Brings the unknown of this column into the equation of the column, from equation `with`.
-fn bring(equations: &mut [Equation; 8], size: usize, unknowns: usize, column: usize, with: usize)
-    requires few { size ≤ 8 }
-    requires narrow { (size ≤ unknowns) × (unknowns ≤ 16) }
+fn bring(equations: &mut Equations, size: usize, unknowns: usize, column: usize, with: usize)
+    requires few { size ≤ MAX_SIDE }
+    requires narrow { (size ≤ unknowns) × (unknowns ≤ MAX_UNKNOWNS) }
     requires behind { column ≤ with }
     requires within { with < size }
     requires has { coefficient equations.old with column ≢ 0 }
@@ -120,9 +126,9 @@ fn bring(equations: &mut [Equation; 8], size: usize, unknowns: usize, column: us
 }
 
 /// Makes the coefficient of the unknown of this column 1 in the equation of the column.
-fn normalize(equations: &mut [Equation; 8], size: usize, unknowns: usize, column: usize)
-    requires few { size ≤ 8 }
-    requires narrow { (size ≤ unknowns) × (unknowns ≤ 16) }
+fn normalize(equations: &mut Equations, size: usize, unknowns: usize, column: usize)
+    requires few { size ≤ MAX_SIDE }
+    requires narrow { (size ≤ unknowns) × (unknowns ≤ MAX_UNKNOWNS) }
     requires within { column < size }
     requires has { coefficient equations.old column column ≢ 0 }
     requires solved { IsSolvedBelow size (coefficient equations.old) column }
@@ -139,9 +145,9 @@ fn normalize(equations: &mut [Equation; 8], size: usize, unknowns: usize, column
 }
 
 /// Takes the unknown of this column out of all equations but its own.
-fn clear(equations: &mut [Equation; 8], size: usize, unknowns: usize, column: usize)
-    requires few { size ≤ 8 }
-    requires narrow { (size ≤ unknowns) × (unknowns ≤ 16) }
+fn clear(equations: &mut Equations, size: usize, unknowns: usize, column: usize)
+    requires few { size ≤ MAX_SIDE }
+    requires narrow { (size ≤ unknowns) × (unknowns ≤ MAX_UNKNOWNS) }
     requires within { column < size }
     requires one { coefficient equations.old column column ≡ 1 }
     requires solved { IsSolvedBelow size (coefficient equations.old) column }
@@ -159,9 +165,9 @@ fn clear(equations: &mut [Equation; 8], size: usize, unknowns: usize, column: us
 
 /// Solves the system for the unknown of this column: the unknown stays in one equation alone. False
 /// where no equation from `column` on has it, and then nothing changes.
-fn solve_for(equations: &mut [Equation; 8], size: usize, unknowns: usize, column: usize) -> bool
-    requires few { size ≤ 8 }
-    requires narrow { (size ≤ unknowns) × (unknowns ≤ 16) }
+fn solve_for(equations: &mut Equations, size: usize, unknowns: usize, column: usize) -> bool
+    requires few { size ≤ MAX_SIDE }
+    requires narrow { (size ≤ unknowns) × (unknowns ≤ MAX_UNKNOWNS) }
     requires within { column < size }
     requires solved { IsSolvedBelow size (coefficient equations.old) column }
     ensures same { SameSolutions size unknowns
@@ -183,9 +189,9 @@ fn solve_for(equations: &mut [Equation; 8], size: usize, unknowns: usize, column
 
 /// Solves the system for one unknown after the other, and keeps its solutions. It answers the first unknown for which
 /// the system can't be solved, or None.
-pub fn solve(equations: &mut [Equation; 8], size: usize, unknowns: usize) -> Option<usize>
-    requires few { size ≤ 8 }
-    requires narrow { (size ≤ unknowns) × (unknowns ≤ 16) }
+pub fn solve(equations: &mut Equations, size: usize, unknowns: usize) -> Option<usize>
+    requires few { size ≤ MAX_SIDE }
+    requires narrow { (size ≤ unknowns) × (unknowns ≤ MAX_UNKNOWNS) }
     requires unsolved { IsSolvedBelow size (coefficient equations.old) 0 }
     ensures same { SameSolutions size unknowns
         (coefficient equations.old) (coefficient equations.new) }
@@ -200,8 +206,8 @@ pub fn solve(equations: &mut [Equation; 8], size: usize, unknowns: usize) -> Opt
 }
 
 /// The first number of the column before its own equation that is not zero, or 1.
-fn leading(equations: &[Equation; 8], column: usize) -> u8
-    requires { column < 8 }
+fn leading(equations: &Equations, column: usize) -> u8
+    requires { column < MAX_SIDE }
     ensures { IsLeading (coefficient equations.now) column result }
 {
     for i in 0..column {
@@ -213,8 +219,8 @@ fn leading(equations: &[Equation; 8], column: usize) -> u8
 }
 
 /// Entry `i` of the kernel list that a column shows, times a factor.
-fn shown(equations: &[Equation; 8], column: usize, factor: u8, i: usize) -> u8
-    requires column_in { column < 8 }
+fn shown(equations: &Equations, column: usize, factor: u8, i: usize) -> u8
+    requires column_in { column < MAX_SIDE }
     ensures { result ≡ shown_at (coefficient equations.now) column factor i }
 {
     if i < column {
@@ -229,12 +235,12 @@ fn shown(equations: &[Equation; 8], column: usize, factor: u8, i: usize) -> u8
 /// The list that a column shows, times a factor.
 fn shown_list(
     alloc: Global,
-    equations: &[Equation; 8],
+    equations: &Equations,
     size: usize,
     column: usize,
     factor: u8,
 ) -> Result<Vec<u8>, AllocError>
-    requires { column < 8 }
+    requires { column < MAX_SIDE }
     ensures { IfOk result (λ list. list.items
         ≡ list_of size (shown_at (coefficient equations.now) column factor)) }
 {
@@ -249,11 +255,11 @@ fn shown_list(
 /// first entry that is not zero is 1.
 pub fn kernel_of(
     alloc: Global,
-    equations: &[Equation; 8],
+    equations: &Equations,
     size: usize,
     column: usize,
 ) -> Result<KernelList, AllocError>
-    requires { column < 8 }
+    requires { column < MAX_SIDE }
     ensures { IfOk result (λ list. (v f : ℕ) × IsLeading (coefficient equations.now) column v
         × (times v f ≡ 1) × (f < 256)
         × (list ≡ list_of size (shown_at (coefficient equations.now) column f))) }
@@ -267,8 +273,8 @@ pub fn kernel_of(
 }
 
 /// The inverse, which the solved system has on its right side.
-pub fn right_side(equations: &[Equation; 8], size: u32) -> Matrix
-    requires { size ≤ 8 }
+pub fn right_side(equations: &Equations, size: u32) -> Matrix
+    requires { size ≤ MAX_SIDE }
     ensures size { (result.rows ≡ size) × (result.columns ≡ size) }
     ensures entries { (i j : ℕ) → i < size → j < size
         → entry result i j ≡ coefficient equations.now i (size + j) }

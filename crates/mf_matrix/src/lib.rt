@@ -13,13 +13,19 @@ use elimination::{equations_of, kernel_of, right_side, solve};
 use std::alloc::{AllocError, Global};
 use std::marker::Model;
 
+/// The greatest number of rows, and of columns, of a matrix.
+pub const MAX_SIDE: usize = 8;
+
+// Room for the entries of the greatest matrix.
+const ROOM: usize = MAX_SIDE * MAX_SIDE;
+
 /// A matrix of bytes with at most eight rows and eight columns. It takes no memory.
 #[derive(Debug, Drop)]
 pub struct Matrix {
     rows: u32,
     columns: u32,
     // The entries row by row, and room behind them.
-    room: [u8; 64],
+    room: [u8; ROOM],
 }
 
 impl Model for Matrix {
@@ -77,8 +83,8 @@ pub enum NoInverse {
 impl Matrix {
     /// The matrix of these entries, row by row.
     pub fn new(rows: u32, columns: u32, entries: Vec<u8>) -> Matrix
-        requires few_rows { rows ≤ 8 }
-        requires few_columns { columns ≤ 8 }
+        requires few_rows { rows ≤ MAX_SIDE }
+        requires few_columns { columns ≤ MAX_SIDE }
         requires filled { length entries.items ≡ rows * columns }
         ensures made { result ≡ record { rows = rows; columns = columns; entries = entries.items } }
         ensures kept { IsGrid result }
@@ -94,8 +100,8 @@ impl Matrix {
 
     /// The matrix of zeros.
     pub fn zero(rows: u32, columns: u32) -> Matrix
-        requires few_rows { rows ≤ 8 }
-        requires few_columns { columns ≤ 8 }
+        requires few_rows { rows ≤ MAX_SIDE }
+        requires few_columns { columns ≤ MAX_SIDE }
         ensures made { result ≡ record {
           rows = rows;
           columns = columns;
@@ -137,10 +143,10 @@ impl Matrix {
 }
 
 // Room for the entries of a matrix.
-fn zeros() -> [u8; 64]
-    ensures { result ≡ replicate 64 0 }
+fn zeros() -> [u8; ROOM]
+    ensures { result ≡ replicate ROOM 0 }
 {
-    [0; 64]
+    [0; ROOM]
 }
 
 impl From<AllocError> for NoInverse {

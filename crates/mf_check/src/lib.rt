@@ -1,5 +1,5 @@
-//! Families of codes: a chain of stages over one list of points, at each stage of which every set of
-//! as many places as there are parities is decodable.
+//! Families of codes: a chain of stages over one list of points, at each stage of which every set
+//! of as many places as there are parities is decodable.
 #![tactic(auto)]
 
 ghost use Rattle.std.specs.Prelude.{◌≡◌, Err, IfOk, IfErr};
@@ -52,8 +52,9 @@ pub enum FamilyFault {
     PointZero(u32),
     /// The points of these two numbers are equal. It is the first such pair.
     PointTwice(u32, u32),
-    /// This is the least stage with a set of places that isn't decodable, its first such set, and the
-    /// kernel list of that set: one entry for each data place, and zero in every surviving parity.
+    /// This is the least stage with a set of places that isn't decodable, its first such set, and
+    /// the kernel list of that set: one entry for each data place, and zero in every surviving
+    /// parity.
     Undecodable {
         stage: u32,
         places: Places,
@@ -111,8 +112,8 @@ impl From<AllocError> for FamilyFault {
 
 /// The family of this shape and these points, or the first fault.
 ///
-/// The points are looked at first: their number, then zeros, then equal pairs. Then stage after stage
-/// each set of places is tried, in their order. Memory may run out at any point.
+/// The points are looked at first: their number, then zeros, then equal pairs. Then stage after
+/// stage each set of places is tried, in their order. Memory may run out at any point.
 pub fn check(alloc: Global, shape: &Shape, points: &[u8]) -> Result<Family, FamilyFault>
     ensures family { IfOk result (λ family.
         (family ≡ record { shape = shape.now; points = points.now }) × IsCode family) }

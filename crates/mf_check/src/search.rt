@@ -9,8 +9,8 @@ use mf_matrix::KernelList;
 use std::alloc::{AllocError, Global};
 
 /// Tries each set that begins with `places` and goes on with places from `from` on, in order. At a
-/// set that isn't decodable it ends with the set in `places`, and gives its kernel list. Where there
-/// is none, `places` is as before. `kept` is room for the kept parities of a set.
+/// set that isn't decodable it ends with the set in `places`, and gives its kernel list. Where
+/// there is none, `places` is as before. `kept` is room for the kept parities of a set.
 pub fn first_continued(
     alloc: Global,
     points: &[u8],

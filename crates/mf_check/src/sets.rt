@@ -35,8 +35,8 @@ fn stands_at(places: &[u32], number: usize, place: u32) -> bool
     number < places.len() && places[number] == place
 }
 
-/// Makes `kept` the numbers of the parities that are kept: those below `count` that aren't among the
-/// places from `first` on, which are in ascending order.
+/// Makes `kept` the numbers of the parities that are kept: those below `count` that aren't among
+/// the places from `first` on, which are in ascending order.
 fn list_kept(
     kept: &mut Vec<u32>,
     places: &[u32],

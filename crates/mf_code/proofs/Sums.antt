@@ -29,7 +29,8 @@ sum_below-zero (suc n) f h = ap₂ bit_xor (sum_below-zero n f (λ i lt. h i (om
 pub sum_below-lt : (n : ℕ) (f : ℕ → ℕ) → ((i : ℕ) → i < n → f i < 256) → sum_below n f < 256
 unfolding sum_below
 sum_below-lt zero f h = omega arith
-sum_below-lt (suc n) f h = xor_lt 8 (sum_below n f) (f n) (sum_below-lt n f (λ i lt. h i (omega arith))) (h n (omega arith))
+sum_below-lt (suc n) f h = xor_lt 8 (sum_below n f) (f n) (sum_below-lt n f (λ i lt. h i (omega arith)))
+    (h n (omega arith))
 
 -- a sum taken apart at an index
 pub sum_below-add : (m n : ℕ) (f : ℕ → ℕ) → sum_below (m + n) f ≡ bit_xor (sum_below m f) (sum_below n (λ i. f (m + i)))
@@ -43,10 +44,12 @@ sum_below-add m (suc n) f =
 pub sum_below-first : (n : ℕ) (f : ℕ → ℕ) → sum_below (suc n) f ≡ bit_xor (f 0) (sum_below n (λ i. f (suc i)))
 unfolding sum_below
 sum_below-first zero f = sym (xor_zero_r (f 0))
-sum_below-first (suc n) f = ap (λ (s : ℕ). bit_xor s (f (suc n))) (sum_below-first n f) ∙ xor_assoc (f 0) (sum_below n (λ i. f (suc i))) (f (suc n))
+sum_below-first (suc n) f = ap (λ (s : ℕ). bit_xor s (f (suc n))) (sum_below-first n f)
+    ∙ xor_assoc (f 0) (sum_below n (λ i. f (suc i))) (f (suc n))
 
 -- the sum of sums, term by term
-pub sum_below_xor : (n : ℕ) (f g : ℕ → ℕ) → sum_below n (λ i. bit_xor (f i) (g i)) ≡ bit_xor (sum_below n f) (sum_below n g)
+pub sum_below_xor : (n : ℕ) (f g : ℕ → ℕ) → sum_below n (λ i. bit_xor (f i) (g i)) ≡ bit_xor (sum_below n f)
+    (sum_below n g)
 unfolding sum_below
 sum_below_xor zero f g = refl
 sum_below_xor (suc n) f g =

@@ -1,4 +1,5 @@
--- The definitions of the code's algebra, and of a file's chunks, stripes and parities. A byte is a number below 256, and a sum of bytes is their exclusive or.
+-- The definitions of the code's algebra, and of a file's chunks, stripes and parities. A byte is a number below 256,
+-- and a sum of bytes is their exclusive or.
 pub mod Field
 pub mod Sums
 pub mod Rows

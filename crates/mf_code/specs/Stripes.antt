@@ -1,4 +1,5 @@
--- The stripes of a file. `size` is the number of bytes of a chunk, `bytes` is the number of bytes of the file, and `file`
+-- The stripes of a file. `size` is the number of bytes of a chunk, `bytes` is the number of bytes of the file, and
+-- `file`
 -- has them.
 use Rattle.std.specs.Prelude.{ℕ, ◌+◌, ◌-◌, ◌*◌, min, List, length, map}
 use Rattle.std.specs.Int.{div_ceil}

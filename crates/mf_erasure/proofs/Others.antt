@@ -1,7 +1,8 @@
 -- The numbers that a rising list leaves out.
 use mathlib.Core.Logic.{dite}
 use native.Mathlib.Decide.{ℕ_discrete}
-use Rattle.std.proofs.Common.{◌≡◌, ◌≢◌, ℕ, zero, suc, ◌+◌, ◌<◌, ◌≤◌, ◌⊎◌, cond, List, [], ◌∷◌, length, get_or, sym, subst, inl, inr, ⊎_elim, arith}
+use Rattle.std.proofs.Common.{◌≡◌, ◌≢◌, ℕ, zero, suc, ◌+◌, ◌<◌, ◌≤◌, ◌⊎◌, cond, List, [], ◌∷◌, length, get_or, sym}
+use Rattle.std.proofs.Common.{subst, inl, inr, ⊎_elim, arith}
 use Rattle.std.proofs.lemmas.Bool.Decides.{eqb_tells}
 use Rattle.mf_lemmas.proofs.Rising.{Rises, rises_none, rises_cons, rises_tail, rises_above}
 use Rattle.mf_erasure.specs.Erasure.{others_from}
@@ -29,9 +30,11 @@ shares_end low high [] e r = record {
   one_of = λ p l m. absurd (omega arith);
   apart = λ i j l m. absurd (omega arith);
 }
-shares_end low high (x ∷ xs) e r = let a : low ≤ x = r.from 0 (omega arith) in let b : x < high = r.below 0 (omega arith) in absurd (omega arith)
+shares_end low high (x ∷ xs) e r = let a : low ≤ x = r.from 0 (omega arith) in let b : x < high =
+    r.below 0 (omega arith) in absurd (omega arith)
 
-shares_other : (low high : ℕ) (ones others : List ℕ) → low < high → Rises (low + 1) high ones → Shares (low + 1) high ones others → Shares low high ones (low ∷ others)
+shares_other : (low high : ℕ) (ones others : List ℕ) → low < high → Rises (low + 1) high ones
+    → Shares (low + 1) high ones others → Shares low high ones (low ∷ others)
 shares_other low high ones others lt r s = record {
   rises = rises_cons low high low others (omega arith) lt s.rises;
   lengths = let e = s.lengths in omega arith;
@@ -45,7 +48,8 @@ shares_other low high ones others lt r s = record {
     apart i zero l m = let h = r.from i l in λ e. omega arith
     apart i (suc j) l m = s.apart i j l (omega arith)
 
-shares_one : (low high x : ℕ) (ones others : List ℕ) → low < high → x ≡ low → Shares (low + 1) high ones others → Shares low high (x ∷ ones) others
+shares_one : (low high x : ℕ) (ones others : List ℕ) → low < high → x ≡ low → Shares (low + 1) high ones others
+    → Shares low high (x ∷ ones) others
 shares_one low high x ones others lt is s = record {
   rises = record {
     from = λ j l. (let h = s.rises.from j l in omega arith);
@@ -63,20 +67,25 @@ shares_one low high x ones others lt is s = record {
     apart zero j l m = let h = s.rises.from j m in λ e. omega arith
     apart (suc i) j l m = s.apart i j (omega arith) m
 
-pub others_share : (n low : ℕ) (ones : List ℕ) → Rises low (low + n) ones → Shares low (low + n) ones (others_from low n ones)
+pub others_share : (n low : ℕ) (ones : List ℕ) → Rises low (low + n) ones
+    → Shares low (low + n) ones (others_from low n ones)
 unfolding others_from
 others_share zero low ones r = shares_end low (low + 0) ones (omega arith) r
 others_share (suc n) low [] r =
     let e : low + 1 + n ≡ low + suc n = omega arith in
     shares_other low (low + suc n) [] (others_from (low + 1) n []) (omega arith) (rises_none (low + 1) (low + suc n))
-    (subst (λ h. Shares (low + 1) h [] (others_from (low + 1) n [])) e (others_share n (low + 1) [] (rises_none (low + 1) (low + 1 + n))))
+    (subst (λ h. Shares (low + 1) h [] (others_from (low + 1) n [])) e
+    (others_share n (low + 1) [] (rises_none (low + 1) (low + 1 + n))))
 others_share (suc n) low (x ∷ xs) r = elim (eqb_tells x low) [
-  | inl t ↦ subst (λ b. Shares low (low + suc n) (x ∷ xs) (cond b (others_from (low + 1) n xs) (low ∷ others_from (low + 1) n (x ∷ xs)))) (sym t.0)
+  | inl t ↦ subst (λ b. Shares low (low + suc n) (x ∷ xs)
+      (cond b (others_from (low + 1) n xs) (low ∷ others_from (low + 1) n (x ∷ xs)))) (sym t.0)
       (shares_one low (low + suc n) x xs (others_from (low + 1) n xs) (omega arith) t.1
       (subst (λ h. Shares (low + 1) h xs (others_from (low + 1) n xs)) e
       (others_share n (low + 1) xs
-      (let is : x ≡ low = t.1 in subst (λ h. Rises (low + 1) h xs) (sym e) (subst (λ y. Rises (y + 1) (low + suc n) xs) is (rises_tail low (low + suc n) x xs r))))))
-  | inr o ↦ subst (λ b. Shares low (low + suc n) (x ∷ xs) (cond b (others_from (low + 1) n xs) (low ∷ others_from (low + 1) n (x ∷ xs)))) (sym o.0)
+      (let is : x ≡ low = t.1 in subst (λ h. Rises (low + 1) h xs) (sym e)
+      (subst (λ y. Rises (y + 1) (low + suc n) xs) is (rises_tail low (low + suc n) x xs r))))))
+  | inr o ↦ subst (λ b. Shares low (low + suc n) (x ∷ xs)
+      (cond b (others_from (low + 1) n xs) (low ∷ others_from (low + 1) n (x ∷ xs)))) (sym o.0)
       (let above = rises_above low (low + suc n) x xs o.1 r in
       shares_other low (low + suc n) (x ∷ xs) (others_from (low + 1) n (x ∷ xs)) (omega arith) above
       (subst (λ h. Shares (low + 1) h (x ∷ xs) (others_from (low + 1) n (x ∷ xs))) e

@@ -28,9 +28,11 @@ pub at_place-other : (a t x : ℕ) → a ≢ t → at_place a t x ≡ 0
 at_place-other a t x h = grind arith
 
 -- the sum over all places of a value at one place
-pub sum_at_place : (width a y : ℕ) (p : ℕ → ℕ) → a < width → sum_below width (λ t. times (p t) (at_place a t y)) ≡ times (p a) y
+pub sum_at_place : (width a y : ℕ) (p : ℕ → ℕ) → a < width → sum_below width (λ t. times (p t) (at_place a t y))
+    ≡ times (p a) y
 sum_at_place width a y p lt =
-    sum_below-single width a (λ t. times (p t) (at_place a t y)) lt (λ i l d. ap (times (p i)) (at_place-other a i y (λ e. d (sym e))) ∙ times-zero (p i))
+    sum_below-single width a (λ t. times (p t) (at_place a t y)) lt
+    (λ i l d. ap (times (p i)) (at_place-other a i y (λ e. d (sym e))) ∙ times-zero (p i))
     ∙ ap (times (p a)) (at_place-same a y)
 
 -- a sum over all places of spread values is a sum over the values
@@ -43,16 +45,20 @@ sum_spread (suc n) width lost x p h =
     (λ t. bit_xor (times (p t) (spread n lost x t)) (times (p t) (at_place (lost n) t (x n))))
     (λ t l. times_add (p t) (spread n lost x t) (at_place (lost n) t (x n)))
     ∙ sum_below_xor width (λ t. times (p t) (spread n lost x t)) (λ t. times (p t) (at_place (lost n) t (x n)))
-    ∙ ap₂ bit_xor (sum_spread n width lost x p (λ j l. h j (omega arith))) (sum_at_place width (lost n) (x n) p (h n (omega arith)))
+    ∙ ap₂ bit_xor (sum_spread n width lost x p (λ j l. h j (omega arith)))
+    (sum_at_place width (lost n) (x n) p (h n (omega arith)))
 
 -- at a place that isn't lost there is 0
 pub spread-other : (n : ℕ) (lost x : ℕ → ℕ) (t : ℕ) → ((j : ℕ) → j < n → lost j ≢ t) → spread n lost x t ≡ 0
-spread-other n lost x t h = sum_below-zero n (λ j. at_place (lost j) t (x j)) (λ j l. at_place-other (lost j) t (x j) (h j l))
+spread-other n lost x t h = sum_below-zero n (λ j. at_place (lost j) t (x j))
+    (λ j l. at_place-other (lost j) t (x j) (h j l))
 
 -- at lost place j there is value j, where the places differ
-pub spread-lost : (n : ℕ) (lost x : ℕ → ℕ) (j : ℕ) → j < n → ((i : ℕ) → i < n → i ≢ j → lost i ≢ lost j) → spread n lost x (lost j) ≡ x j
+pub spread-lost : (n : ℕ) (lost x : ℕ → ℕ) (j : ℕ) → j < n → ((i : ℕ) → i < n → i ≢ j → lost i ≢ lost j)
+    → spread n lost x (lost j) ≡ x j
 spread-lost n lost x j lt h =
-    sum_below-single n j (λ i. at_place (lost i) (lost j) (x i)) lt (λ i l d. at_place-other (lost i) (lost j) (x i) (h i l d))
+    sum_below-single n j (λ i. at_place (lost i) (lost j) (x i)) lt
+    (λ i l d. at_place-other (lost i) (lost j) (x i) (h i l d))
     ∙ at_place-same (lost j) (x j)
 
 -- spread bytes are bytes

@@ -1,18 +1,20 @@
-//! The bridge between lost places and matrices: the matrix of an erasure, which a decoder inverts, and which
-//! places a stripe can lose, said by codewords that agree outside of them and by this matrix.
+//! The bridge between lost places and matrices: the matrix of an erasure, which a decoder inverts,
+//! and which places a stripe can lose, said by codewords that agree outside of them and by this
+//! matrix.
 #![tactic(auto)]
 
 ghost use Rattle.std.specs.Prelude.{◌≡◌, ℕ, ◌<◌, ◌≤◌, length, slice_index};
 ghost use Rattle.mf_matrix.specs.Matrix.{IsGrid, entry as entry_of};
 ghost use Rattle.std.specs.Bool.{OnTrue, OnFalse};
-ghost use Rattle.mf_erasure.specs.Erasure.{entry, IsErasure, IsPlaces, DecodableByMatrix, SetsAreErasures};
+ghost use Rattle.mf_erasure.specs.Erasure.{entry, IsErasure, IsPlaces};
+ghost use Rattle.mf_erasure.specs.Erasure.{DecodableByMatrix, SetsAreErasures};
 
 use mf_field::pow;
 use mf_matrix::{MAX_SIDE, Matrix};
 
-/// The matrix of an erasure: a row for each kept parity, a column for each lost data place, and as entry the
-/// parity's point to the power of the place. `kept` has the parities' numbers, each with a point. No more than
-/// eight are lost or kept.
+/// The matrix of an erasure: a row for each kept parity, a column for each lost data place, and as
+/// entry the parity's point to the power of the place. `kept` has the parities' numbers, each with
+/// a point. No more than eight are lost or kept.
 pub fn erasure_matrix(points: &[u8], lost: &[u32], kept: &[u32]) -> Matrix
     requires few_rows { length kept.now ≤ MAX_SIDE }
     requires few_columns { length lost.now ≤ MAX_SIDE }
@@ -31,8 +33,9 @@ pub fn erasure_matrix(points: &[u8], lost: &[u32], kept: &[u32]) -> Matrix
     matrix
 }
 
-/// Whether these lists are an erasure of a stripe of `width` data places with `count` parities: as many lost
-/// places as kept parities, both in ascending order, the places below the width and the parities below the count.
+/// Whether these lists are an erasure of a stripe of `width` data places with `count` parities: as
+/// many lost places as kept parities, both in ascending order, the places below the width and the
+/// parities below the count.
 pub fn is_erasure(width: u32, count: u32, lost: &[u32], kept: &[u32]) -> bool
     ensures yes { OnTrue result (IsErasure width count lost.now kept.now) }
     ensures no { OnFalse result (IsErasure width count lost.now kept.now → ⊥) }
@@ -53,12 +56,14 @@ fn are_places(count: u32, places: &[u32]) -> bool
     true
 }
 
-/// A set of places is decodable just where the matrix of its erasure sends only the zero list to zero.
+/// A set of places is decodable just where the matrix of its erasure sends only the zero list to
+/// zero.
 pub fn decodable_by_matrix()
     ensures { DecodableByMatrix }
 {}
 
-/// A set of as many places as there are parities belongs to an erasure, and each erasure to such a set.
+/// A set of as many places as there are parities belongs to an erasure, and each erasure to such a
+/// set.
 pub fn sets_are_erasures()
     ensures { SetsAreErasures }
 {}

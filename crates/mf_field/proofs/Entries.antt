@@ -1,5 +1,7 @@
 -- The tables' rule, tested once by a walk along each table, and what it says of each entry.
-use Rattle.std.proofs.Common.{◌≡◌, ℕ, zero, suc, ◌+◌, ◌-◌, ◌<◌, Bool, true, ◌&&◌, ◌==◌, nat_lt, List, [], ◌∷◌, length, get_or, take, drop, get_or-take, get_or-drop, refl, sym, ap, ◌∙◌, subst, arith, eqb-true, ltb-true, add-zero}
+use Rattle.std.proofs.Common.{◌≡◌, ℕ, zero, suc, ◌+◌, ◌-◌, ◌<◌, Bool, true, ◌&&◌, ◌==◌, nat_lt, List, [], ◌∷◌, length}
+use Rattle.std.proofs.Common.{get_or, take, drop, get_or-take, get_or-drop, refl, sym, ap, ◌∙◌, subst, arith, eqb-true}
+use Rattle.std.proofs.Common.{ltb-true, add-zero}
 use Rattle.std.proofs.lemmas.Bool.{and_parts}
 use Rattle.mf_code.specs.Field.{carryless, remainder, times, power}
 use Rattle.mf_field.specs.declared.tables.TheConstants.{POWERS, EXPONENTS}
@@ -9,10 +11,13 @@ doubles : ℕ → List ℕ → Bool
 doubles x [] = true
 doubles x (y ∷ ys) = y == x && doubles (times x 2) ys
 
-doubles_at : (s : ℕ) (ys : List ℕ) → doubles (power 2 s) ys ≡ true → (i : ℕ) → i < length ys → get_or ys i 0 ≡ power 2 (s + i)
+doubles_at : (s : ℕ) (ys : List ℕ) → doubles (power 2 s) ys ≡ true → (i : ℕ) → i < length ys
+    → get_or ys i 0 ≡ power 2 (s + i)
 unfolding doubles power
 doubles_at s [] h i lt = absurd (omega arith)
-doubles_at s (y ∷ ys) h zero lt = eqb-true y (power 2 s) (and_parts (y == power 2 s) (doubles (power 2 (suc s)) ys) h).0 ∙ ap (power 2) (sym (add-zero s))
+doubles_at s (y ∷ ys) h zero lt =
+    eqb-true y (power 2 s) (and_parts (y == power 2 s) (doubles (power 2 (suc s)) ys) h).0
+    ∙ ap (power 2) (sym (add-zero s))
 doubles_at s (y ∷ ys) h (suc i) lt =
     doubles_at (suc s) ys (and_parts (y == power 2 s) (doubles (power 2 (suc s)) ys) h).1 i (omega arith)
     ∙ ap (power 2) (let e : suc s + i ≡ s + suc i = omega arith in e)
@@ -57,10 +62,14 @@ entry a = get_or EXPONENTS a 0
 pub exponents_at : (a : ℕ) → 0 < a → a < 256 → (entry a < 255) × (power 2 (entry a) ≡ a)
 exponents_at a pos la =
     let r = finds_at 1 (drop 1 EXPONENTS) exponents_found (a - 1) (omega arith) in
-    let place = get_or-drop 1 EXPONENTS (a - 1) 0 ∙ ap (λ (k : ℕ). get_or EXPONENTS k 0) (let k : 1 + (a - 1) ≡ a = omega arith in k) in
+    let place = get_or-drop 1 EXPONENTS (a - 1) 0
+    ∙ ap (λ (k : ℕ). get_or EXPONENTS k 0) (let k : 1 + (a - 1) ≡ a = omega arith in k) in
     let e = get_or EXPONENTS a 0 in
-    let small : e < 255 = subst (λ (v : ℕ). v < 255) place r.0 in
-    (small, sym (powers_at e (omega arith)) ∙ ap (λ (v : ℕ). get_or POWERS v 0) (sym place) ∙ r.1 ∙ (let k : 1 + (a - 1) ≡ a = omega arith in k))
+    let small : e < 255 = subst (λ (v : ℕ). v < 255) place r.0 in (
+      small,
+      sym (powers_at e (omega arith)) ∙ ap (λ (v : ℕ). get_or POWERS v 0) (sym place) ∙ r.1
+          ∙ (let k : 1 + (a - 1) ≡ a = omega arith in k),
+    )
 
 -- ---- no exponent but the entry has the power
 
@@ -72,7 +81,8 @@ returns_to e (x ∷ xs) = get_or EXPONENTS x 0 == e && returns_to (e + 1) xs
 returns_to_at : (e : ℕ) (xs : List ℕ) → returns_to e xs ≡ true → (i : ℕ) → i < length xs → entry (get_or xs i 0) ≡ e + i
 unfolding returns_to
 returns_to_at e [] h i lt = absurd (omega arith)
-returns_to_at e (x ∷ xs) h zero lt = eqb-true (get_or EXPONENTS x 0) e (and_parts (get_or EXPONENTS x 0 == e) (returns_to (e + 1) xs) h).0 ∙ sym (add-zero e)
+returns_to_at e (x ∷ xs) h zero lt = eqb-true (get_or EXPONENTS x 0) e
+    (and_parts (get_or EXPONENTS x 0 == e) (returns_to (e + 1) xs) h).0 ∙ sym (add-zero e)
 returns_to_at e (x ∷ xs) h (suc i) lt =
     returns_to_at (e + 1) xs (and_parts (get_or EXPONENTS x 0 == e) (returns_to (e + 1) xs) h).1 i (omega arith)
     ∙ (let k : e + 1 + i ≡ e + suc i = omega arith in k)

@@ -1,5 +1,6 @@
 -- The field laws of the product of bytes. Sums are exclusive ors, whose laws are std's.
-use Rattle.std.proofs.Common.{◌≡◌, ℕ, zero, suc, ◌+◌, ◌-◌, ◌^◌, ◌<◌, ◌⊎◌, bit_xor, Bool, true, ◌&&◌, ◌==◌, nat_lt, refl, sym, ap, ◌∙◌, subst, arith, inl, inr, eqb-true, ltb-true}
+use Rattle.std.proofs.Common.{◌≡◌, ℕ, zero, suc, ◌+◌, ◌-◌, ◌^◌, ◌<◌, ◌⊎◌, bit_xor, Bool, true, ◌&&◌, ◌==◌, nat_lt, refl}
+use Rattle.std.proofs.Common.{sym, ap, ◌∙◌, subst, arith, inl, inr, eqb-true, ltb-true}
 use Rattle.std.proofs.lemmas.Bool.{and_parts, cases_lt, cases_eq}
 use Rattle.mf_code.specs.Field.{carryless, remainder, times}
 use Rattle.mf_field.proofs.Linear.{Linear-zero, Linear-after, Linear-same, Linear-lt, times-xor, xor-times}
@@ -71,7 +72,8 @@ fixed_at_powers = refl
 pub times-lt : (a b : ℕ) → a < 256 → b < 256 → times a b < 256
 times-lt a b la lb =
     Linear-lt 8 (λ a. times a b) (xor-times b) 8
-    (λ i li. Linear-lt 8 (times (2 ^ i)) (times-xor (2 ^ i)) 8 (λ j lj. ltb-true (times (2 ^ i) (2 ^ j)) 256 (test_2 is_small small_at_powers i j li lj)) b lb)
+    (λ i li. Linear-lt 8 (times (2 ^ i)) (times-xor (2 ^ i)) 8
+    (λ j lj. ltb-true (times (2 ^ i) (2 ^ j)) 256 (test_2 is_small small_at_powers i j li lj)) b lb)
     a la
 
 pub times_comm : (a b : ℕ) → a < 256 → b < 256 → times a b ≡ times b a
@@ -84,7 +86,8 @@ times_comm a b la lb =
 
 assoc_at_two : (i j c : ℕ) → i < 8 → j < 8 → c < 256 → times (times (2 ^ i) (2 ^ j)) c ≡ times (2 ^ i) (times (2 ^ j) c)
 assoc_at_two i j c li lj lc =
-    Linear-same (times (times (2 ^ i) (2 ^ j))) (λ c. times (2 ^ i) (times (2 ^ j) c)) (times-xor (times (2 ^ i) (2 ^ j)))
+    Linear-same (times (times (2 ^ i) (2 ^ j))) (λ c. times (2 ^ i) (times (2 ^ j) c))
+    (times-xor (times (2 ^ i) (2 ^ j)))
     (Linear-after (times (2 ^ i)) (times (2 ^ j)) (times-xor (2 ^ i)) (times-xor (2 ^ j))) 8
     (λ k lk. eqb-true (times (times (2 ^ i) (2 ^ j)) (2 ^ k)) (times (2 ^ i) (times (2 ^ j) (2 ^ k)))
     (every_at 8 (associates i j) (test_2 (λ i j. every 8 (associates i j)) associates_at_powers i j li lj) k lk))
@@ -92,13 +95,15 @@ assoc_at_two i j c li lj lc =
 
 assoc_at_one : (i b c : ℕ) → i < 8 → b < 256 → c < 256 → times (times (2 ^ i) b) c ≡ times (2 ^ i) (times b c)
 assoc_at_one i b c li lb lc =
-    Linear-same (λ b. times (times (2 ^ i) b) c) (λ b. times (2 ^ i) (times b c)) (Linear-after (λ x. times x c) (times (2 ^ i)) (xor-times c) (times-xor (2 ^ i)))
+    Linear-same (λ b. times (times (2 ^ i) b) c) (λ b. times (2 ^ i) (times b c))
+    (Linear-after (λ x. times x c) (times (2 ^ i)) (xor-times c) (times-xor (2 ^ i)))
     (Linear-after (times (2 ^ i)) (λ b. times b c) (times-xor (2 ^ i)) (xor-times c)) 8
     (λ j lj. assoc_at_two i j c li lj lc) b lb
 
 pub times_assoc : (a b c : ℕ) → a < 256 → b < 256 → c < 256 → times (times a b) c ≡ times a (times b c)
 times_assoc a b c la lb lc =
-    Linear-same (λ a. times (times a b) c) (λ a. times a (times b c)) (Linear-after (λ x. times x c) (λ a. times a b) (xor-times c) (xor-times b)) (xor-times (times b c)) 8
+    Linear-same (λ a. times (times a b) c) (λ a. times a (times b c))
+    (Linear-after (λ x. times x c) (λ a. times a b) (xor-times c) (xor-times b)) (xor-times (times b c)) 8
     (λ i li. assoc_at_one i b c li lb lc) a la
 
 pub times-one : (a : ℕ) → a < 256 → times a 1 ≡ a
@@ -136,12 +141,16 @@ inverts_at a pos la = every_at 255 inverts inverts_each (a - 1) (omega arith)
 pub inverse-lt : (a : ℕ) → 0 < a → a < 256 → inverse a < 256
 inverse-lt a pos la =
     subst (λ (x : ℕ). inverse x < 256) (let e : a - 1 + 1 ≡ a = omega arith in e)
-    (ltb-true (inverse (a - 1 + 1)) 256 (and_parts (nat_lt (inverse (a - 1 + 1)) 256) (times (a - 1 + 1) (inverse (a - 1 + 1)) == 1) (inverts_at a pos la)).0)
+    (ltb-true (inverse (a - 1 + 1)) 256
+    (and_parts (nat_lt (inverse (a - 1 + 1)) 256) (times (a - 1 + 1) (inverse (a - 1 + 1)) == 1)
+    (inverts_at a pos la)).0)
 
 pub times-inverse : (a : ℕ) → 0 < a → a < 256 → times a (inverse a) ≡ 1
 times-inverse a pos la =
     subst (λ (x : ℕ). times x (inverse x) ≡ 1) (let e : a - 1 + 1 ≡ a = omega arith in e)
-    (eqb-true (times (a - 1 + 1) (inverse (a - 1 + 1))) 1 (and_parts (nat_lt (inverse (a - 1 + 1)) 256) (times (a - 1 + 1) (inverse (a - 1 + 1)) == 1) (inverts_at a pos la)).1)
+    (eqb-true (times (a - 1 + 1) (inverse (a - 1 + 1))) 1
+    (and_parts (nat_lt (inverse (a - 1 + 1)) 256) (times (a - 1 + 1) (inverse (a - 1 + 1)) == 1)
+    (inverts_at a pos la)).1)
 
 pub inverse-times : (a : ℕ) → 0 < a → a < 256 → times (inverse a) a ≡ 1
 inverse-times a pos la = times_comm (inverse a) a (inverse-lt a pos la) la ∙ times-inverse a pos la
@@ -149,14 +158,17 @@ inverse-times a pos la = times_comm (inverse a) a (inverse-lt a pos la) la ∙ t
 -- what a product by a is undone by
 pub inverse-times-times : (a x : ℕ) → 0 < a → a < 256 → x < 256 → times (inverse a) (times a x) ≡ x
 inverse-times-times a x pos la lx =
-    sym (times_assoc (inverse a) a x (inverse-lt a pos la) la lx) ∙ ap (λ (v : ℕ). times v x) (inverse-times a pos la) ∙ one-times x lx
+    sym (times_assoc (inverse a) a x (inverse-lt a pos la) la lx) ∙ ap (λ (v : ℕ). times v x) (inverse-times a pos la)
+    ∙ one-times x lx
 
 pub times_cancel : (a x y : ℕ) → 0 < a → a < 256 → x < 256 → y < 256 → times a x ≡ times a y → x ≡ y
-times_cancel a x y pos la lx ly e = sym (inverse-times-times a x pos la lx) ∙ ap (times (inverse a)) e ∙ inverse-times-times a y pos la ly
+times_cancel a x y pos la lx ly e = sym (inverse-times-times a x pos la lx) ∙ ap (times (inverse a)) e
+    ∙ inverse-times-times a y pos la ly
 
 -- the inverse is the only one
 pub inverse_unique : (a b : ℕ) → 0 < a → a < 256 → b < 256 → times a b ≡ 1 → b ≡ inverse a
-inverse_unique a b pos la lb e = times_cancel a b (inverse a) pos la lb (inverse-lt a pos la) (e ∙ sym (times-inverse a pos la))
+inverse_unique a b pos la lb e = times_cancel a b (inverse a) pos la lb (inverse-lt a pos la)
+    (e ∙ sym (times-inverse a pos la))
 
 -- ---- no zero divisors
 

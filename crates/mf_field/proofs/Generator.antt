@@ -1,5 +1,6 @@
 -- The powers of 2 come again after 255.
-use Rattle.std.proofs.Common.{◌≡◌, ℕ, zero, suc, ◌+◌, ◌-◌, ◌*◌, ◌/◌, ◌%◌, ◌<◌, ◌⊎◌, inl, inr, refl, sym, ap, ap₂, ◌∙◌, arith, div-add-mod', mul_comm}
+use Rattle.std.proofs.Common.{◌≡◌, ℕ, zero, suc, ◌+◌, ◌-◌, ◌*◌, ◌/◌, ◌%◌, ◌<◌, ◌⊎◌, inl, inr, refl, sym, ap, ap₂, ◌∙◌}
+use Rattle.std.proofs.Common.{arith, div-add-mod', mul_comm}
 use Rattle.mf_code.specs.Field.{carryless, remainder, times, power}
 use Rattle.mf_field.proofs.FieldLaws.{times-zero, zero-times, one-times}
 use Rattle.mf_field.proofs.Powers.{power-lt, power-add, power-mul, power_of_one}
@@ -12,7 +13,8 @@ pub two_mod : (e : ℕ) → power 2 (e % 255) ≡ power 2 e
 two_mod e =
     sym (ap (power 2) (sym (div-add-mod' e 255)) ∙ power-add 2 (e / 255 * 255) (e % 255) (omega arith)
     ∙ ap (λ (v : ℕ). times v (power 2 (e % 255)))
-    (ap (power 2) (mul_comm (e / 255) 255) ∙ power-mul 2 255 (e / 255) (omega arith) ∙ ap (λ (v : ℕ). power v (e / 255)) two_period ∙ power_of_one (e / 255))
+    (ap (power 2) (mul_comm (e / 255) 255) ∙ power-mul 2 255 (e / 255) (omega arith)
+    ∙ ap (λ (v : ℕ). power v (e / 255)) two_period ∙ power_of_one (e / 255))
     ∙ one-times (power 2 (e % 255)) (power-lt 2 (e % 255) (omega arith)))
 
 -- ---- what the calls compute
@@ -41,4 +43,5 @@ power_of_zero a (suc e) z pos = sym (ap (times (power a e)) z ∙ times-zero (po
 -- the inverse from an exponent
 pub inverse_from : (a i r : ℕ) → power 2 i ≡ a → i < 255 → r ≡ power 2 (255 - i) → times a r ≡ 1
 inverse_from a i r p lt is =
-    ap₂ times (sym p) is ∙ sym (power-add 2 i (255 - i) (omega arith)) ∙ ap (power 2) (let e : i + (255 - i) ≡ 255 = omega arith in e) ∙ two_period
+    ap₂ times (sym p) is ∙ sym (power-add 2 i (255 - i) (omega arith))
+    ∙ ap (power 2) (let e : i + (255 - i) ≡ 255 = omega arith in e) ∙ two_period

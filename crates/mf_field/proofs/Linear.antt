@@ -1,5 +1,7 @@
 -- The product is linear on each side, and a linear function is known from its values at the eight powers of two.
-use Rattle.std.proofs.Common.{◌≡◌, ℕ, zero, suc, ◌+◌, ◌*◌, ◌/◌, ◌%◌, ◌^◌, ◌<◌, bit_xor, Bool, true, false, cond, eqb, refl, sym, ap, ap₂, ◌∙◌, subst, arith, mod-lt, pow_pos, pow-suc, mul_comm, div-lt_iff_lt-mul, zero-mul, one-mul}
+use Rattle.std.proofs.Common.{◌≡◌, ℕ, zero, suc, ◌+◌, ◌*◌, ◌/◌, ◌%◌, ◌^◌, ◌<◌, bit_xor, Bool, true, false, cond, eqb}
+use Rattle.std.proofs.Common.{refl, sym, ap, ap₂, ◌∙◌, subst, arith, mod-lt, pow_pos, pow-suc, mul_comm}
+use Rattle.std.proofs.Common.{div-lt_iff_lt-mul, zero-mul, one-mul}
 use Rattle.std.specs.Int.{bit_at}
 use Rattle.std.specs.Int.Bits.{xor_assoc, xor_zero_r, xor_self}
 use Rattle.std.proofs.lemmas.Nat.{xor_lt}
@@ -13,7 +15,8 @@ abbrev pub Linear : (ℕ → ℕ) → Type 0
 Linear f = (x y : ℕ) → f (bit_xor x y) ≡ bit_xor (f x) (f y)
 
 pub Linear-zero : (f : ℕ → ℕ) → Linear f → f 0 ≡ 0
-Linear-zero f h = sym (xor_zero_r (f 0)) ∙ ap (bit_xor (f 0)) (sym (xor_self (f 0))) ∙ sym (xor_assoc (f 0) (f 0) (f 0)) ∙ ap (λ (x : ℕ). bit_xor x (f 0)) (sym (h 0 0)) ∙ xor_self (f 0)
+Linear-zero f h = sym (xor_zero_r (f 0)) ∙ ap (bit_xor (f 0)) (sym (xor_self (f 0)))
+    ∙ sym (xor_assoc (f 0) (f 0) (f 0)) ∙ ap (λ (x : ℕ). bit_xor x (f 0)) (sym (h 0 0)) ∙ xor_self (f 0)
 
 pub Linear-after : (f g : ℕ → ℕ) → Linear f → Linear g → Linear (λ x. f (g x))
 Linear-after f g hf hg x y = ap f (hg x y) ∙ hf (g x) (g y)
@@ -27,8 +30,10 @@ at_bit f g hf hg (suc zero) v lt e = ap f (one-mul v) ∙ e ∙ ap g (sym (one-m
 at_bit f g hf hg (suc (suc q)) v lt e = absurd (omega arith)
 
 -- linear functions that agree at the powers of two agree on every number of n bits
-pub Linear-same : (f g : ℕ → ℕ) → Linear f → Linear g → (n : ℕ) → ((i : ℕ) → i < n → f (2 ^ i) ≡ g (2 ^ i)) → (x : ℕ) → x < 2 ^ n → f x ≡ g x
-Linear-same f g hf hg zero at x lt = let e : x ≡ 0 = omega arith in ap f e ∙ Linear-zero f hf ∙ sym (Linear-zero g hg) ∙ ap g (sym e)
+pub Linear-same : (f g : ℕ → ℕ) → Linear f → Linear g → (n : ℕ) → ((i : ℕ) → i < n → f (2 ^ i) ≡ g (2 ^ i)) → (x : ℕ)
+    → x < 2 ^ n → f x ≡ g x
+Linear-same f g hf hg zero at x lt = let e : x ≡ 0 = omega arith in ap f e ∙ Linear-zero f hf ∙ sym (Linear-zero g hg)
+    ∙ ap g (sym e)
 Linear-same f g hf hg (suc n) at x lt =
     let q = x / 2 ^ n in
     let r = x % 2 ^ n in
@@ -39,8 +44,10 @@ Linear-same f g hf hg (suc n) at x lt =
     ∙ sym (hg (q * 2 ^ n) r) ∙ ap g (high_and_rest n x)
 
 -- a linear function whose values at the powers of two are below 2 ^ k has only such values on n bits
-pub Linear-lt : (k : ℕ) (f : ℕ → ℕ) → Linear f → (n : ℕ) → ((i : ℕ) → i < n → f (2 ^ i) < 2 ^ k) → (x : ℕ) → x < 2 ^ n → f x < 2 ^ k
-Linear-lt k f hf zero at x lt = let e : x ≡ 0 = omega arith in subst (λ (v : ℕ). v < 2 ^ k) (sym (ap f e ∙ Linear-zero f hf)) (pow_pos k)
+pub Linear-lt : (k : ℕ) (f : ℕ → ℕ) → Linear f → (n : ℕ) → ((i : ℕ) → i < n → f (2 ^ i) < 2 ^ k) → (x : ℕ) → x < 2 ^ n
+    → f x < 2 ^ k
+Linear-lt k f hf zero at x lt = let e : x ≡ 0 = omega arith in subst (λ (v : ℕ). v < 2 ^ k)
+    (sym (ap f e ∙ Linear-zero f hf)) (pow_pos k)
 Linear-lt k f hf (suc n) at x lt =
     let q = x / 2 ^ n in
     let r = x % 2 ^ n in
@@ -68,7 +75,8 @@ where_one_xor (suc (suc x)) y v a b = absurd (omega arith)
 where_one_xor zero (suc (suc y)) v a b = absurd (omega arith)
 where_one_xor (suc zero) (suc (suc y)) v a b = absurd (omega arith)
 
-bit_where_one_xor : (x y n v : ℕ) → where_one (bit_at (bit_xor x y) n) v ≡ bit_xor (where_one (bit_at x n) v) (where_one (bit_at y n) v)
+bit_where_one_xor : (x y n v : ℕ) → where_one (bit_at (bit_xor x y) n) v ≡ bit_xor (where_one (bit_at x n) v)
+    (where_one (bit_at y n) v)
 bit_where_one_xor x y n v =
     ap (λ (b : ℕ). where_one b v) (bit_at_xor x y n)
     ∙ where_one_xor (bit_at x n) (bit_at y n) v (bit_at-lt x n) (bit_at-lt y n)
@@ -82,7 +90,8 @@ unfolding carryless
 carryless_right zero a x y = refl
 carryless_right (suc n) a x y =
     ap₂ bit_xor (carryless_right n a x y) (bit_where_one_xor x y n (a * 2 ^ n))
-    ∙ xor_swap (carryless n a x) (carryless n a y) (where_one (bit_at x n) (a * 2 ^ n)) (where_one (bit_at y n) (a * 2 ^ n))
+    ∙ xor_swap (carryless n a x) (carryless n a y) (where_one (bit_at x n) (a * 2 ^ n))
+    (where_one (bit_at y n) (a * 2 ^ n))
 
 pub carryless_left : (n b : ℕ) → Linear (λ a. carryless n a b)
 unfolding carryless
@@ -90,7 +99,8 @@ carryless_left zero b x y = refl
 carryless_left (suc n) b x y =
     ap₂ bit_xor (carryless_left n b x y)
     (ap (λ (v : ℕ). where_one (bit_at b n) v) (xor_shl n x y) ∙ cond_xor (eqb (bit_at b n) 1) (x * 2 ^ n) (y * 2 ^ n))
-    ∙ xor_swap (carryless n x b) (carryless n y b) (where_one (bit_at b n) (x * 2 ^ n)) (where_one (bit_at b n) (y * 2 ^ n))
+    ∙ xor_swap (carryless n x b) (carryless n y b) (where_one (bit_at b n) (x * 2 ^ n))
+    (where_one (bit_at b n) (y * 2 ^ n))
 
 taken_off : (b : Bool) (p c : ℕ) → cond b (bit_xor p c) p ≡ bit_xor p (cond b c 0)
 taken_off true p c = refl

@@ -1,5 +1,6 @@
 -- The laws of powers.
-use Rattle.std.proofs.Common.{◌≡◌, ℕ, zero, suc, ◌+◌, ◌*◌, ◌<◌, refl, sym, ap, ◌∙◌, arith, add-zero, add-suc, mul-suc, mul-zero}
+use Rattle.std.proofs.Common.{◌≡◌, ℕ, zero, suc, ◌+◌, ◌*◌, ◌<◌, refl, sym, ap, ◌∙◌, arith, add-zero, add-suc, mul-suc}
+use Rattle.std.proofs.Common.{mul-zero}
 use Rattle.mf_code.specs.Field.{times, power}
 use Rattle.mf_field.proofs.FieldLaws.{times-lt, times_assoc, times-one, one-times, times-pos, times_swap}
 

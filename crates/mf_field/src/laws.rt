@@ -1,6 +1,6 @@
-//! The laws of the field. Each is a function that does nothing, whose contract is the law at its arguments: a call costs
-//! nothing and tells the caller the law. `times` and `power` are what `mul` and `pow` answer, and `bit_xor` is what `add`
-//! answers.
+//! The laws of the field. Each is a function that does nothing, whose contract is the law at its
+//! arguments: a call costs nothing and tells the caller the law. `times` and `power` are what `mul`
+//! and `pow` answer, and `bit_xor` is what `add` answers.
 ghost use Rattle.std.specs.Prelude.{◌≡◌, ◌⊎◌, ℕ, ◌+◌, ◌*◌, ◌<◌, ◌≤◌, bit_xor, length, slice_index};
 ghost use Rattle.mf_code.specs.Field.{times, power};
 ghost use Rattle.mf_code.specs.Sums.{sum_below, weighted};
@@ -73,9 +73,10 @@ pub fn pow_of_product(a: u8, m: u32, n: u32)
     ensures { power a (m * n) ≡ power (power a m) n }
 {}
 
-/// Merging: let x be a list of bytes, with zeros behind it. The sum, over n blocks b of k bytes each, of
-/// `point ^ (b * k)` times the sum of the block by the point, is the sum of all n * k bytes by the point. Where the blocks
-/// reach the end of the list, this is the sum of the list by the point.
+/// Merging: let x be a list of bytes, with zeros behind it. The sum, over n blocks b of k bytes
+/// each, of `point ^ (b * k)` times the sum of the block by the point, is the sum of all n * k
+/// bytes by the point. Where the blocks reach the end of the list, this is the sum of the list by
+/// the point.
 pub fn merging(point: u8, x: &[u8], n: usize, k: usize)
     ensures blocks { sum_below n (λ b. times (power point (b * k))
         (sum_below k (λ i. times (power point i) (slice_index x.now (b * k + i)))))

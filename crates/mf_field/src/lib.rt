@@ -1,5 +1,6 @@
-//! The field of 256 elements, which are the bytes. Addition is exclusive or, and multiplication is that of polynomials
-//! over the field of two elements modulo `x^8 + x^4 + x^3 + x^2 + 1`, which is 0x11D. No call takes memory.
+//! The field of 256 elements, which are the bytes. Addition is exclusive or, and multiplication is
+//! that of polynomials over the field of two elements modulo `x^8 + x^4 + x^3 + x^2 + 1`, which is
+//! 0x11D. No call takes memory.
 #![tactic(auto)]
 
 ghost use Rattle.std.specs.Prelude.{◌≡◌, ◌↔◌, bit_xor, IsNone, IfSome};

@@ -2,8 +2,8 @@
 ghost use Rattle.std.specs.Prelude.{◌≡◌, ◌<◌};
 ghost use Rattle.mf_code.specs.Field.{power};
 
-/// Entry e is the power of 2 with exponent e. The powers come again after 255 entries, so that a sum of two exponents
-/// below 255 is in range.
+/// Entry e is the power of 2 with exponent e. The powers come again after 255 entries, so that a
+/// sum of two exponents below 255 is in range.
 static POWERS: [u8; 509] = [
     0x01, 0x02, 0x04, 0x08, 0x10, 0x20, 0x40, 0x80, 0x1d, 0x3a, 0x74, 0xe8, 0xcd, 0x87, 0x13, 0x26,
     0x4c, 0x98, 0x2d, 0x5a, 0xb4, 0x75, 0xea, 0xc9, 0x8f, 0x03, 0x06, 0x0c, 0x18, 0x30, 0x60, 0xc0,

@@ -1,7 +1,8 @@
 -- Lists of numbers, index by index.
 use mathlib.Core.Logic.{dite}
 use native.Mathlib.Decide.{ℕ_discrete}
-use Rattle.std.proofs.Common.{◌≡◌, ◌≢◌, ℕ, zero, suc, ◌<◌, ◌⊎◌, List, [], ◌∷◌, length, map, get_or, refl, sym, ◌∙◌, ap₂, subst, inl, inr, ⊎_elim, arith}
+use Rattle.std.proofs.Common.{◌≡◌, ◌≢◌, ℕ, zero, suc, ◌<◌, ◌⊎◌, List, [], ◌∷◌, length, map, get_or, refl, sym, ◌∙◌, ap₂}
+use Rattle.std.proofs.Common.{subst, inl, inr, ⊎_elim, arith}
 use Rattle.std.specs.Prelude.{All, Contains}
 use Rattle.std.specs.List.Sorted.{IsStrictlyIncreasing}
 use Rattle.std.proofs.lemmas.Bool.{cases_lt}
@@ -16,10 +17,12 @@ pub at_contains : (xs : List ℕ) (j : ℕ) → j < length xs → Contains xs (g
 at_contains xs j lt = (j, lt, get_or_default xs j (get_or xs j 0) 0 lt)
 
 -- the elements of a rising list differ
-pub rising_differ : (xs : List ℕ) → IsStrictlyIncreasing xs → (i j : ℕ) → i < length xs → j < length xs → i ≢ j → get_or xs i 0 ≢ get_or xs j 0
+pub rising_differ : (xs : List ℕ) → IsStrictlyIncreasing xs → (i j : ℕ) → i < length xs → j < length xs → i ≢ j
+    → get_or xs i 0 ≢ get_or xs j 0
 rising_differ xs r i j li lj d = elim (cases_lt i j) [
   | inl low ↦ (let h : get_or xs i 0 < get_or xs j 0 = AllPairs-from_increasing xs r i j 0 low lj in λ e. omega arith)
-  | inr high ↦ (let h : get_or xs j 0 < get_or xs i 0 = AllPairs-from_increasing xs r j i 0 (omega arith) li in λ e. omega arith)
+  | inr high ↦ (let h : get_or xs j 0 < get_or xs i 0 = AllPairs-from_increasing xs r j i 0 (omega arith) li in
+      λ e. omega arith)
 ]
 
 -- a number is one of the first n values, or none of them
@@ -29,7 +32,8 @@ find_in (suc n) f t = dite (ℕ_discrete (f n) t)
     (λ e. inl (n, omega arith, e))
     (λ ne. ⊎_elim
     (λ found. let l : found.0 < n = found.1 in inl (found.0, omega arith, found.2))
-    (λ none. inr (λ j l. dite (ℕ_discrete j n) (λ e. subst (λ (m : ℕ). f m ≢ t) (sym e) ne) (λ d. none j (omega arith))))
+    (λ none. inr (λ j l. dite (ℕ_discrete j n) (λ e. subst (λ (m : ℕ). f m ≢ t) (sym e) ne)
+    (λ d. none j (omega arith))))
     (find_in n f t))
 
 -- each byte of a list of bytes, and what is past its end

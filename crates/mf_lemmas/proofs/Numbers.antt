@@ -1,11 +1,13 @@
 -- Exclusive or, which is the sum of bytes.
-use Rattle.std.proofs.Common.{◌≡◌, ℕ, ◌*◌, ◌/◌, ◌%◌, ◌^◌, bit_xor, sym, ap, ap₂, ◌∙◌, add-zero, mod-lt, div-add-mod', pow_pos}
+use Rattle.std.proofs.Common.{◌≡◌, ℕ, ◌*◌, ◌/◌, ◌%◌, ◌^◌, bit_xor, sym, ap, ap₂, ◌∙◌, add-zero, mod-lt, div-add-mod'}
+use Rattle.std.proofs.Common.{pow_pos}
 use Rattle.std.specs.Int.Bits.{xor_assoc, xor_zero_l, xor_zero_r, xor_self, xor_shifted}
 use Rattle.std.proofs.lemmas.Nat.{xor_comm, xor_block}
 
 -- numbers whose sum is zero are equal
 pub equal_from_sum : (a b : ℕ) → bit_xor a b ≡ 0 → a ≡ b
-equal_from_sum a b e = sym (xor_zero_r a) ∙ ap (bit_xor a) (sym (xor_self b)) ∙ sym (xor_assoc a b b) ∙ ap (λ v. bit_xor v b) e ∙ xor_zero_l b
+equal_from_sum a b e = sym (xor_zero_r a) ∙ ap (bit_xor a) (sym (xor_self b)) ∙ sym (xor_assoc a b b)
+    ∙ ap (λ v. bit_xor v b) e ∙ xor_zero_l b
 
 pub sum_from_equal : (a b : ℕ) → a ≡ b → bit_xor a b ≡ 0
 sum_from_equal a b e = ap (λ v. bit_xor v b) e ∙ xor_self b

@@ -8,7 +8,13 @@ pub record Rises (low high : ℕ) (xs : List ℕ) : Type 0 where
   pub rise : (i j : ℕ) → i < j → j < length xs → get_or xs i 0 < get_or xs j 0
 
 pub rises_none : (low high : ℕ) → Rises low high []
-rises_none low high = record { from = λ j l. absurd (omega arith); below = λ j l. absurd (omega arith); rise = λ i j l m. absurd (omega arith) }
+rises_none low high =
+    record {
+      from = λ j l. absurd (omega arith);
+      below = λ j l. absurd (omega arith);
+      rise =
+          λ i j l m. absurd (omega arith);
+    }
 
 pub rises_cons : (low high x : ℕ) (xs : List ℕ) → low ≤ x → x < high → Rises (x + 1) high xs → Rises low high (x ∷ xs)
 rises_cons low high x xs le lt r = record { from = from; below = below; rise = rise }
@@ -42,4 +48,5 @@ rises_above low high x xs ne r =
 
 -- rising numbers from another low on
 pub rises_wider : (low lower high : ℕ) (xs : List ℕ) → lower ≤ low → Rises low high xs → Rises lower high xs
-rises_wider low lower high xs le r = record { from = λ j l. (let h = r.from j l in omega arith); below = r.below; rise = r.rise }
+rises_wider low lower high xs le r =
+    record { from = λ j l. (let h = r.from j l in omega arith); below = r.below; rise = r.rise }

@@ -12,7 +12,8 @@ pub weighted-combination : (m f : ℕ) (a b z : ℕ → ℕ) → f < 256 → IsB
     → sum_below m (λ j. times (bit_xor (a j) (times f (b j))) (z j))
     ≡ bit_xor (sum_below m (λ j. times (a j) (z j))) (times f (sum_below m (λ j. times (b j) (z j))))
 weighted-combination m f a b z lf lb lz =
-    sum_below-same m (λ j. times (bit_xor (a j) (times f (b j))) (z j)) (λ j. bit_xor (times (a j) (z j)) (times f (times (b j) (z j))))
+    sum_below-same m (λ j. times (bit_xor (a j) (times f (b j))) (z j))
+    (λ j. bit_xor (times (a j) (z j)) (times f (times (b j) (z j))))
     (λ j lt. add_times (a j) (times f (b j)) (z j)
     ∙ ap (bit_xor (times (a j) (z j))) (times_assoc f (b j) (z j) lf (lb j) (lz j)))
     ∙ sum_below_xor m (λ j. times (a j) (z j)) (λ j. times f (times (b j) (z j)))
@@ -29,10 +30,13 @@ weighted-multiple m f a z lf la lz =
 
 -- the product of two tables, applied to a list, is the one applied after the other
 pub product-applied : (n : ℕ) (b a : ℕ → ℕ → ℕ) (x : ℕ → ℕ) (i : ℕ) → IsTable b → IsTable a → IsBytes x
-    → sum_below n (λ j. times (product_at n b a i j) (x j)) ≡ sum_below n (λ k. times (b i k) (sum_below n (λ j. times (a k j) (x j))))
+    → sum_below n (λ j. times (product_at n b a i j) (x j))
+    ≡ sum_below n (λ k. times (b i k) (sum_below n (λ j. times (a k j) (x j))))
 product-applied n b a x i lb la lx =
-    sum_below-same n (λ j. times (product_at n b a i j) (x j)) (λ j. sum_below n (λ k. times (times (b i k) (a k j)) (x j)))
+    sum_below-same n (λ j. times (product_at n b a i j) (x j))
+    (λ j. sum_below n (λ k. times (times (b i k) (a k j)) (x j)))
     (λ j lt. sum_times (x j) n (λ k. times (b i k) (a k j)))
     ∙ sum_below_swap n n (λ j k. times (times (b i k) (a k j)) (x j))
-    ∙ sum_below-same n (λ k. sum_below n (λ j. times (times (b i k) (a k j)) (x j))) (λ k. times (b i k) (sum_below n (λ j. times (a k j) (x j))))
+    ∙ sum_below-same n (λ k. sum_below n (λ j. times (times (b i k) (a k j)) (x j)))
+    (λ k. times (b i k) (sum_below n (λ j. times (a k j) (x j))))
     (λ k lt. weighted-multiple n (b i k) (a k) x (lb i k) (la k) lx)

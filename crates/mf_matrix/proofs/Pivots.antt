@@ -14,7 +14,8 @@ module _ (m : ℕ) (old new : ℕ → ℕ → ℕ) (i f p : ℕ) (adds : AddsTim
   pub adds-bytes : f < 256 → IsTable old → IsTable new
   adds-bytes lf bytes k j = elim (cases_eq k i) [
     | inl here ↦ subst (λ r. new r j < 256) (sym here) (elim (cases_lt j m) [
-      | inl lt ↦ subst (λ v. v < 256) (sym (adds.here j lt)) (xor_lt 8 (old i j) (times f (old p j)) (bytes i j) (times-lt f (old p j) lf (bytes p j)))
+      | inl lt ↦ subst (λ v. v < 256) (sym (adds.here j lt))
+          (xor_lt 8 (old i j) (times f (old p j)) (bytes i j) (times-lt f (old p j) lf (bytes p j)))
       | inr past ↦ subst (λ v. v < 256) (sym (adds.beyond j past)) (bytes i j)
     ])
     | inr other ↦ subst (λ v. v < 256) (sym (adds.elsewhere k j other)) (bytes k j)
@@ -40,10 +41,12 @@ module _ (m : ℕ) (old new : ℕ → ℕ → ℕ) (i f p : ℕ) (adds : AddsTim
       ]
 
 -- bringing an unknown into its equation
-pub brought : (m : ℕ) (old new : ℕ → ℕ → ℕ) (c p : ℕ) → AddsTimes m old new c 1 p → c < m → IsTable old → old c c ≡ 0 → old p c ≢ 0
+pub brought : (m : ℕ) (old new : ℕ → ℕ → ℕ) (c p : ℕ) → AddsTimes m old new c 1 p → c < m → IsTable old → old c c ≡ 0
+    → old p c ≢ 0
     → new c c ≢ 0
 brought m old new c p adds lt bytes none has e =
-    has (sym (one-times (old p c) (bytes p c)) ∙ sym (xor_zero_l (times 1 (old p c))) ∙ ap (λ v. bit_xor v (times 1 (old p c))) (sym none)
+    has (sym (one-times (old p c) (bytes p c)) ∙ sym (xor_zero_l (times 1 (old p c)))
+    ∙ ap (λ v. bit_xor v (times 1 (old p c))) (sym none)
     ∙ sym (adds.here c lt) ∙ e)
 
 module _ (m : ℕ) (old new : ℕ → ℕ → ℕ) (c f : ℕ) (scales : Scales m old new c f) where
@@ -75,7 +78,8 @@ module _ (m : ℕ) (old new : ℕ → ℕ → ℕ) (c f : ℕ) (scales : Scales 
       ]
 
 -- clearing a column
-pub IsCleared-skip : (n m c k : ℕ) (start e : ℕ → ℕ → ℕ) → k ≡ c → IsCleared n m c k start e → IsCleared n m c (k + 1) start e
+pub IsCleared-skip : (n m c k : ℕ) (start e : ℕ → ℕ → ℕ) → k ≡ c → IsCleared n m c k start e
+    → IsCleared n m c (k + 1) start e
 IsCleared-skip n m c k start e here before = record {
   same = before.same;
   solved = before.solved;
@@ -91,7 +95,8 @@ pub IsCleared-step : (n m c k : ℕ) (start e new : ℕ → ℕ → ℕ) → k �
 IsCleared-step n m c k start e new apart lc lm adds before =
     let lf : e k c < 256 = before.solved.bytes k c in
     record {
-      same = SameSolutions-trans n m start e new before.same (SameSolutions-adds n m k (e k c) c e new lf before.solved.bytes adds apart lc);
+      same = SameSolutions-trans n m start e new before.same
+          (SameSolutions-adds n m k (e k c) c e new lf before.solved.bytes adds apart lc);
       solved = adds-solved m e new k (e k c) c adds n c lf lc (omega arith) before.solved;
       one = adds.elsewhere c c (λ x. apart (sym x)) ∙ before.one;
       cleared = λ i lt. elim (cases_eq i k) [

@@ -4,7 +4,8 @@ use Rattle.std.proofs.lemmas.Bool.{cases_lt}
 use Rattle.std.proofs.lemmas.List.{get_or_past}
 use Rattle.mf_code.specs.Field.{times}
 use Rattle.mf_code.proofs.Sums.{sum_below-same}
-use Rattle.mf_matrix.specs.Tables.{IsTable, IsInverse, HasInverse, GivesIdentity, SendsToZero, OnlyZero, DependsOnEarlier, IsKernel}
+use Rattle.mf_matrix.specs.Tables.{IsTable, IsInverse, HasInverse, GivesIdentity, SendsToZero, OnlyZero}
+use Rattle.mf_matrix.specs.Tables.{DependsOnEarlier, IsKernel}
 
 -- the same entry in each row and column below n
 abbrev pub SameBelow : ℕ → (ℕ → ℕ → ℕ) → (ℕ → ℕ → ℕ) → Type 0
@@ -15,11 +16,14 @@ same_back n a b s i j li lj = sym (s i j li lj)
 
 -- ---- inverses
 
-gives_identity-same : (n : ℕ) (a a' b b' : ℕ → ℕ → ℕ) → SameBelow n a a' → SameBelow n b b' → GivesIdentity n a b → GivesIdentity n a' b'
+gives_identity-same : (n : ℕ) (a a' b b' : ℕ → ℕ → ℕ) → SameBelow n a a' → SameBelow n b b' → GivesIdentity n a b
+    → GivesIdentity n a' b'
 gives_identity-same n a a' b b' sa sb one i j li lj =
-    sum_below-same n (λ k. times (a' i k) (b' k j)) (λ k. times (a i k) (b k j)) (λ k lk. ap₂ times (sym (sa i k li lk)) (sym (sb k j lk lj))) ∙ one i j li lj
+    sum_below-same n (λ k. times (a' i k) (b' k j)) (λ k. times (a i k) (b k j))
+    (λ k lk. ap₂ times (sym (sa i k li lk)) (sym (sb k j lk lj))) ∙ one i j li lj
 
-pub is_inverse-same : (n : ℕ) (a a' b b' : ℕ → ℕ → ℕ) → SameBelow n a a' → SameBelow n b b' → IsTable b' → IsInverse n a b → IsInverse n a' b'
+pub is_inverse-same : (n : ℕ) (a a' b b' : ℕ → ℕ → ℕ) → SameBelow n a a' → SameBelow n b b' → IsTable b'
+    → IsInverse n a b → IsInverse n a' b'
 is_inverse-same n a a' b b' sa sb bytes inv = record {
   bytes = bytes;
   on_the_right = gives_identity-same n a a' b b' sa sb inv.on_the_right;
@@ -32,13 +36,16 @@ has_inverse-same n a a' sa (b, inv) = (b, is_inverse-same n a a' b b sa (λ i j 
 -- ---- zeros
 
 sends-same : (n : ℕ) (a a' : ℕ → ℕ → ℕ) (x : ℕ → ℕ) → SameBelow n a a' → SendsToZero n a x → SendsToZero n a' x
-sends-same n a a' x sa zeros i li = sum_below-same n (λ j. times (a' i j) (x j)) (λ j. times (a i j) (x j)) (λ j lj. ap (λ (y : ℕ). times y (x j)) (sym (sa i j li lj))) ∙ zeros i li
+sends-same n a a' x sa zeros i li = sum_below-same n (λ j. times (a' i j) (x j)) (λ j. times (a i j) (x j))
+    (λ j lj. ap (λ (y : ℕ). times y (x j)) (sym (sa i j li lj))) ∙ zeros i li
 
-depends-same : (n : ℕ) (a a' : ℕ → ℕ → ℕ) (c : ℕ) → c < n → SameBelow n a a' → DependsOnEarlier n a c → DependsOnEarlier n a' c
+depends-same : (n : ℕ) (a a' : ℕ → ℕ → ℕ) (c : ℕ) → c < n → SameBelow n a a' → DependsOnEarlier n a c
+    → DependsOnEarlier n a' c
 depends-same n a a' c lc sa (w, lw, is) = (
   w,
   lw,
-  λ i li. sym (sa i c li lc) ∙ is i li ∙ sum_below-same c (λ j. times (a i j) (w j)) (λ j. times (a' i j) (w j)) (λ j lj. ap (λ (x : ℕ). times x (w j)) (sa i j li (omega arith))),
+  λ i li. sym (sa i c li lc) ∙ is i li ∙ sum_below-same c (λ j. times (a i j) (w j)) (λ j. times (a' i j) (w j))
+      (λ j lj. ap (λ (x : ℕ). times x (w j)) (sa i j li (omega arith))),
 )
 
 pub is_kernel-same : (n : ℕ) (a a' : ℕ → ℕ → ℕ) (x : List ℕ) → SameBelow n a a' → IsKernel n a x → IsKernel n a' x

@@ -1,4 +1,5 @@
--- What private functions of the elimination cite: systems of linear equations. Equation i is a list of coefficients, and
+-- What private functions of the elimination cite: systems of linear equations. Equation i is a list of coefficients,
+-- and
 -- values z solve it where the sum of coefficient j times z j, over the unknowns j, is zero.
 use Rattle.std.specs.Prelude.{ℕ, ◌≡◌, ◌≢◌, ◌+◌, ◌<◌, ◌≤◌, ◌⊎◌, ◌==◌, nat_lt, if◌then◌else◌, List}
 use Rattle.std.specs.Prelude.{[], slice_index, bit_xor, Option, Some, None}

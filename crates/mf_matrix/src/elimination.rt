@@ -1,6 +1,6 @@
 //! Elimination. To invert a matrix a is to solve a x = y for x, whatever y is. Each equation of the
-//! system has its coefficients of x first, and behind them those of y. Steps that keep the solutions
-//! solve it for one unknown after the other.
+//! system has its coefficients of x first, and behind them those of y. Steps that keep the
+//! solutions solve it for one unknown after the other.
 ghost use Rattle.std.specs.Prelude.{◌≡◌, ◌≢◌, ℕ, ◌+◌, ◌*◌, ◌<◌, ◌≤◌, ◌⊎◌, ◌++◌};
 ghost use Rattle.std.specs.Prelude.{length, slice_index, bit_xor, OnOk, IfOk, IfSome, IfNone};
 ghost use Rattle.std.specs.Bool.{OnTrue, OnFalse};
@@ -9,7 +9,8 @@ ghost use Rattle.mf_code.specs.Rows.{list_of};
 ghost use Rattle.mf_matrix.specs.Tables.{IsTable};
 ghost use Rattle.mf_matrix.specs.Matrix.{IsGrid, entry};
 ghost use Rattle.mf_matrix.specs.Elimination.{coefficient, SameSolutions, IsSolvedBelow, AddsTimes};
-ghost use Rattle.mf_matrix.specs.Elimination.{Scales, IsSystemOf, IsStuckAt, IsLeading, shown_at, EndsAt};
+ghost use Rattle.mf_matrix.specs.Elimination.{Scales, IsSystemOf, IsStuckAt, EndsAt};
+ghost use Rattle.mf_matrix.specs.Elimination.{IsLeading, shown_at};
 
 use crate::{KernelList, MAX_SIDE, Matrix};
 use mf_field::{add, inv, mul};
@@ -187,8 +188,8 @@ fn solve_for(equations: &mut Equations, size: usize, unknowns: usize, column: us
     }
 }
 
-/// Solves the system for one unknown after the other, and keeps its solutions. It answers the first unknown for which
-/// the system can't be solved, or None.
+/// Solves the system for one unknown after the other, and keeps its solutions. It answers the first
+/// unknown for which the system can't be solved, or None.
 pub fn solve(equations: &mut Equations, size: usize, unknowns: usize) -> Option<usize>
     requires few { size ≤ MAX_SIDE }
     requires narrow { (size ≤ unknowns) × (unknowns ≤ MAX_UNKNOWNS) }

@@ -47,8 +47,9 @@ impl Model for Matrix {
     }) };
 }
 
-/// The kernel list of a matrix that has no inverse: the matrix sends it to zero, it is zero after the
-/// first column that depends on the columns before it, and its first entry that is not zero is 1.
+/// The kernel list of a matrix that has no inverse: the matrix sends it to zero, it is zero after
+/// the first column that depends on the columns before it, and its first entry that is not zero is
+/// 1.
 #[derive(Debug, Drop)]
 pub struct KernelList {
     entries: Vec<u8>,
@@ -159,8 +160,8 @@ impl From<AllocError> for NoInverse {
     }
 }
 
-/// The one kernel list of a square matrix, or None where the matrix sends only the zero list to zero.
-/// Memory is taken for a kernel list alone.
+/// The one kernel list of a square matrix, or None where the matrix sends only the zero list to
+/// zero. Memory is taken for a kernel list alone.
 pub fn kernel(alloc: Global, matrix: &Matrix) -> Result<Option<KernelList>, AllocError>
     requires { matrix.now.rows ≡ matrix.now.columns }
     ensures { IfOk result (FindsKernel (matrix.now.columns) (entry matrix.now)) }

@@ -19,8 +19,10 @@ returns-in-Some-2-clause-fault c =
     let read_is = c.stages-stages.ensures.value in
     let found : Vec ℕ Global × List ℕ = (c.in-Some-2.items, c.in-Some-2.kernel) in
     let read : answered points g (Some found) c.stages-stages.result.now =
-    subst (λ (o : Option (Vec ℕ Global × List ℕ)). answered points g o c.stages-stages.result.now) c.in-Some-2.is c.in_ok-items.ensures in
-    let good : ArePoints (parities_at stages 0) points = subst (λ (l : List Stage). ArePoints (parities_at l 0) points) read_is c.in_default.ensures in (
+    subst (λ (o : Option (Vec ℕ Global × List ℕ)). answered points g o c.stages-stages.result.now) c.in-Some-2.is
+    c.in_ok-items.ensures in
+    let good : ArePoints (parities_at stages 0) points = subst (λ (l : List Stage). ArePoints (parities_at l 0) points)
+    read_is c.in_default.ensures in (
       good,
       IsUndecodable-found stages points c.stages-stages.ensures.kept.chain good g
           (subst (λ (l : List Stage). g < length l) read_is c.loop-g-test.true) found c.loop-g.invariant
@@ -33,5 +35,7 @@ loop-g-preserved c =
     let points = c.args.points.now in
     let g = c.loop-g.g in
     let read : answered points g None c.stages-stages.result.now =
-    subst (λ (o : Option (Vec ℕ Global × List ℕ)). answered points g o c.stages-stages.result.now) c.in_default-2.is c.in_ok-items.ensures in
-    one_stage_more stages points g c.loop-g.invariant (subst (answered points g None) c.stages-stages.ensures.value read)
+    subst (λ (o : Option (Vec ℕ Global × List ℕ)). answered points g o c.stages-stages.result.now) c.in_default-2.is
+    c.in_ok-items.ensures in
+    one_stage_more stages points g c.loop-g.invariant
+    (subst (answered points g None) c.stages-stages.ensures.value read)

@@ -14,7 +14,8 @@ returns-in-None-clause-inverse c =
     let init = coefficient c.equations_of-equations.result in
     let e = coefficient c.solve.new.equations in
     let same : SameSolutions size (size + size) init e =
-    subst (λ n. SameSolutions size n init e) (let twice : 2 * size ≡ size + size = omega arith in twice) c.in-None.ensures.same in
+    subst (λ n. SameSolutions size n init e) (let twice : 2 * size ≡ size + size = omega arith in twice)
+    c.in-None.ensures.same in
     solved_system size m.columns (entry m) (entry b) init e (ap (λ (g : Grid). g.columns) c.matrix.view_is)
     (bytes_of _ m c.matrix.view_is c.matrix.invariant) (λ i j. c.right_side.ensures.kept.bytes (i * b.columns + j))
     c.equations_of-equations.ensures.says same c.in-None.ensures.end c.right_side.ensures.entries
@@ -26,9 +27,11 @@ returns-in_ok-kernel_of-in-Some-clause-kernel c =
     let init = coefficient c.equations_of-equations.result in
     let e = coefficient c.solve.new.equations in
     let same : SameSolutions size (size + size) init e =
-    subst (λ n. SameSolutions size n init e) (let twice : 2 * size ≡ size + size = omega arith in twice) c.in-Some.ensures.same in
+    subst (λ n. SameSolutions size n init e) (let twice : 2 * size ≡ size + size = omega arith in twice)
+    c.in-Some.ensures.same in
     let (within, solved, stuck) = c.in-Some.ensures.end in
     let (v, f, leading, inverse, lf, is) = c.in_ok-kernel_of-in-Some.ensures in
     stuck_system size m.columns c.in-Some.column (entry m) init e (ap (λ (g : Grid). g.columns) c.matrix.view_is) within
-    (bytes_of _ m c.matrix.view_is c.matrix.invariant) c.equations_of-equations.ensures.says (same_left size init e same) solved stuck
+    (bytes_of _ m c.matrix.view_is c.matrix.invariant) c.equations_of-equations.ensures.says
+    (same_left size init e same) solved stuck
     v f c.in_ok-kernel_of-in-Some.field-0 leading inverse lf is

@@ -9,5 +9,6 @@ abbrev pub invariant-loop-place : goal.invariant-loop-place
 invariant-loop-place l = record {
   same : l.places.items ≡ l.initial.places.items;
   room : length l.initial.places.items < length l.points;
-  done : AllDecodable l.points l.width l.initial.places.items l.from (λ s. slice_index s (length l.initial.places.items) < l.place);
+  done : AllDecodable l.points l.width l.initial.places.items l.from
+      (λ s. slice_index s (length l.initial.places.items) < l.place);
 }

@@ -14,11 +14,13 @@ pub invariant_of-result : goal.invariant_of-result
 invariant_of-result c =
     let rows = c.args.rows in
     let columns = c.args.columns in
-    subst IsGrid (sym (zero_grid rows columns c.zeros-room.result c.requires.few_rows c.requires.few_columns c.zeros-room.ensures))
+    subst IsGrid (sym (zero_grid rows columns c.zeros-room.result c.requires.few_rows c.requires.few_columns
+    c.zeros-room.ensures))
     (zero_kept rows columns c.requires.few_rows c.requires.few_columns)
 
 pub returns-clause-made : goal.returns-clause-made
-returns-clause-made c = zero_grid c.args.rows c.args.columns c.zeros-room.result c.requires.few_rows c.requires.few_columns c.zeros-room.ensures
+returns-clause-made c = zero_grid c.args.rows c.args.columns c.zeros-room.result c.requires.few_rows
+    c.requires.few_columns c.zeros-room.ensures
 
 pub returns-clause-kept : goal.returns-clause-kept
 returns-clause-kept c = invariant_of-result c

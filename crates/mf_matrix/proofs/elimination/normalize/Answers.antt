@@ -10,13 +10,15 @@ returns-clause-same c =
     let e = coefficient c.args.equations.now in
     let column = c.args.column in
     let byte : c.in-Some.factor < 256 = omega arith in
-    SameSolutions-scales c.args.size c.args.unknowns column c.in-Some.factor (e column column) e (coefficient c.scale.new.equations)
+    SameSolutions-scales c.args.size c.args.unknowns column c.in-Some.factor (e column column) e
+    (coefficient c.scale.new.equations)
     byte (c.requires.solved.bytes column column) c.requires.solved.bytes c.scale.ensures c.in-Some.ensures.product
 
 pub returns-clause-solved : goal.returns-clause-solved
 returns-clause-solved c =
     let byte : c.in-Some.factor < 256 = omega arith in
-    scales-solved c.args.unknowns (coefficient c.args.equations.now) (coefficient c.scale.new.equations) c.args.column c.in-Some.factor c.scale.ensures
+    scales-solved c.args.unknowns (coefficient c.args.equations.now) (coefficient c.scale.new.equations) c.args.column
+    c.in-Some.factor c.scale.ensures
     c.args.size byte c.requires.within c.requires.solved
 
 pub returns-clause-one : goal.returns-clause-one

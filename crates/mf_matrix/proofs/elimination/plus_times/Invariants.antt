@@ -8,5 +8,6 @@ invariant-loop-j l = record {
   equation_len : length l.equation ≡ 16;
   other_len : length l.other ≡ 16;
   rest : (k : ℕ) → l.j ≤ k → slice_index l.sum k ≡ slice_index l.equation k;
-  done : (k : ℕ) → k < l.j → slice_index l.sum k ≡ bit_xor (slice_index l.equation k) (times l.factor (slice_index l.other k));
+  done : (k : ℕ) → k < l.j → slice_index l.sum k ≡ bit_xor (slice_index l.equation k)
+      (times l.factor (slice_index l.other k));
 }

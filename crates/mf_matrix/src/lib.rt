@@ -198,13 +198,8 @@ mod tests {
     use std::test::Fail;
 
     /// The kernel list of a square matrix of two rows, or none.
-    fn kernel_of_two(alloc: Global, entries: [u8; 4]) -> Result<Option<KernelList>, Fail> {
-        let matrix = Matrix::new(2, 2, Vec::from_array(alloc, entries)?);
-        match invert(alloc, &matrix) {
-            Ok(_) => Ok(None),
-            Err(NoInverse::Kernel(kernel)) => Ok(Some(kernel)),
-            Err(NoInverse::Memory) => Err(AllocError.into()),
-        }
+    fn kernel_of_two(alloc: Global, entries: [u8; 4]) -> Result<Option<KernelList>, AllocError> {
+        kernel(alloc, &Matrix::new(2, 2, Vec::from_array(alloc, entries)?))
     }
 
     #[test]
@@ -216,20 +211,18 @@ mod tests {
         assert!(rt; kernel_of_two(rt.alloc(), [0, 1, 1, 0])?.is_none());
 
         let matrix = Matrix::new(2, 2, Vec::from_array(rt.alloc(), [1, 1, 1, 2])?);
-        match invert(rt.alloc(), &matrix) {
-            Ok(inverse) => {
-                assert_eq!(rt; inverse.rows, 2);
-                assert_eq!(rt; inverse.columns, 2);
-                let entries = [
-                    inverse.at(0, 0),
-                    inverse.at(0, 1),
-                    inverse.at(1, 0),
-                    inverse.at(1, 1),
-                ];
-                assert_eq!(rt; entries, [0xf5, 0xf4, 0xf4, 0xf4]);
-            }
-            Err(_) => assert!(rt; false),
-        }
+        let inverse = match invert(rt.alloc(), &matrix) {
+            Ok(inverse) => inverse,
+            Err(_fault) => return Err(AllocError.into()),
+        };
+        assert_eq!(rt; (inverse.rows, inverse.columns), (2, 2));
+        let entries = [
+            inverse.at(0, 0),
+            inverse.at(0, 1),
+            inverse.at(1, 0),
+            inverse.at(1, 1),
+        ];
+        assert_eq!(rt; entries, [0xf5, 0xf4, 0xf4, 0xf4]);
         Ok(())
     }
 }

@@ -7,6 +7,8 @@ mod fetch;
 mod io;
 mod law;
 mod note;
+#[cfg(test)]
+mod tests;
 
 pub use access::Access;
 pub use answers::{Answer, Entry, Got, Op, Pinned, Rest};

@@ -4,3 +4,4 @@ pub mod Listed
 pub mod Bringing
 pub mod Created
 pub mod Made
+pub mod Once

@@ -2,6 +2,7 @@
 pub mod Conditions
 pub mod Create
 pub mod Remove
+pub mod Laws
 -- Words of private functions.
 pub mod Building
 pub mod Cells

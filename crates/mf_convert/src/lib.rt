@@ -4,8 +4,10 @@
 mod cells;
 mod change;
 mod creating;
+mod laws;
 mod removing;
 
 pub use change::Change;
 pub use creating::create;
+pub use laws::{create_has_one_result, remove_has_one_result};
 pub use removing::remove;

@@ -1,0 +1,13 @@
+//! What follows of creating and removing a file.
+ghost use Rattle.mf_convert.specs.Laws.{CreatesOnce, RemovesOnce};
+
+/// Where the whole state is told, a create that had its memory has one outcome, and leaves one
+/// actor.
+pub fn create_has_one_result()
+    ensures { CreatesOnce }
+{}
+
+/// Where the whole state is told, a remove has one outcome, and leaves one actor.
+pub fn remove_has_one_result()
+    ensures { RemovesOnce }
+{}

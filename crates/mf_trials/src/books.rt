@@ -1,4 +1,5 @@
-//! The book of a file of 1,024 chunks, and of the last file number: its names in order, and where they lie.
+//! The book of a file of 1,024 chunks, and of the last file number: its names in order, and where
+//! they lie.
 use mf_places::Name::{Copy, Data, Parity};
 use mf_places::{Book, Name};
 use mf_shape::{Shape, Stage};
@@ -24,8 +25,9 @@ const STAGES: [Stage; 3] = [
     },
 ];
 
-// All names of a file of 1,024 chunks, in order, and the column of each: data and copies over the greatest width,
-// which is 64, a copy moved on by the greatest width with copies, which is 16, and the parities behind.
+// All names of a file of 1,024 chunks, in order, and the column of each: data and copies over the
+// greatest width, which is 64, a copy moved on by the greatest width with copies, which is 16, and
+// the parities behind.
 fn names(alloc: Global) -> Result<Vec<(Name, u32)>, Fail> {
     let mut names = Vec::new(alloc);
     for i in 0..1_024u32 {

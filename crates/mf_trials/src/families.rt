@@ -14,11 +14,11 @@ macro_rules! stage {
     };
 }
 
-// Stages, points and what is said of them. Over the points 1, 2, 4, 8 a family is at most 21 wide: at 22, 2 ^ 10 and
-// 2 ^ 21 differ by 1, so the data 0, 10 and 21 and the parity by 4 are not decodable by 1, 2 and 8, and in a wider
-// stripe data 0, 1 and 25 come first, since 2 ^ 1 and 2 ^ 25 differ by 1. Over 1, 2, 4 any three places of a stripe
-// are decodable, since the powers of 2 differ. All of it was tried by a program of another kind, determinant by
-// determinant.
+// Stages, points and what is said of them. Over the points 1, 2, 4, 8 a family is at most 21 wide:
+// at 22, 2 ^ 10 and 2 ^ 21 differ by 1, so the data 0, 10 and 21 and the parity by 4 are not
+// decodable by 1, 2 and 8, and in a wider stripe data 0, 1 and 25 come first, since 2 ^ 1 and 2 ^
+// 25 differ by 1. Over 1, 2, 4 any three places of a stripe are decodable, since the powers of 2
+// differ. All of it was tried by a program of another kind, determinant by determinant.
 static CASES: [(&[Stage], &[u8], &str); 9] = [
     (&[stage!(21, 4, 0)], &[1, 2, 4, 8], "family"),
     (

@@ -40,7 +40,8 @@ fn gather_from(alloc: Global, family: &Family, store: &mut Store) -> Gathered
     gather(alloc, store, family.points(), width, count as u32, size)
 }
 
-// Each piece is asked for once, ascending; then parities, ascending, until as many are had as pieces are lost.
+// Each piece is asked for once, ascending; then parities, ascending, until as many are had as
+// pieces are lost.
 fn assert_order(rt: &impl Abort, store: &Store, count: u32, lost: u64, lost_parities: u64)
     requires { count ≤ 64 }
 {
@@ -72,7 +73,8 @@ fn assert_asked(rt: &impl Abort, store: &Store, n: u32, place: Place, had: bool)
     assert_eq!(rt; asked, Some(Asked { place, had }), "number {n}");
 }
 
-// A gathering of the first `count` pieces, of `size` bytes, where these pieces and these parities are lost.
+// A gathering of the first `count` pieces, of `size` bytes, where these pieces and these parities
+// are lost.
 fn assert_gathered(
     rt: &impl Abort,
     alloc: Global,

@@ -1,4 +1,5 @@
-//! The kernels, beside plain sums, at lengths round the lanes and the blocks, and from unaligned starts.
+//! The kernels, beside plain sums, at lengths round the lanes and the blocks, and from unaligned
+//! starts.
 ghost use Rattle.std.specs.Prelude.{◌≤◌};
 
 use crate::plain::{product, row};
@@ -14,8 +15,8 @@ const STARTS: [(usize, usize); 3] = [(0, 0), (1, 0), (5, 3)];
 
 const FACTORS: [u8; 6] = [0, 1, 2, 0x1d, 0x8e, 0xff];
 
-// Each byte of `before` from `start` on, `size` of them, with `change` of it and of the byte of `src` that goes with
-// it; the other bytes as they were.
+// Each byte of `before` from `start` on, `size` of them, with `change` of it and of the byte of
+// `src` that goes with it; the other bytes as they were.
 fn assert_row<F: Fn(u8, u8) -> u8>(
     rt: &impl Abort,
     before: &[u8],

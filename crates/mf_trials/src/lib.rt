@@ -1,4 +1,5 @@
-//! Trials of the codes: what their calls answer, beside plain loops over carry-less products. There are only tests.
+//! Trials of the codes: what their calls answer, beside plain loops over carry-less products. There
+//! are only tests.
 #![tactic(auto)]
 
 #[cfg(test)]

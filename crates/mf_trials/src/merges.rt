@@ -11,7 +11,8 @@ use std::test::Fail;
 
 const POINTS: [u8; 4] = [1, 2, 3, 0x8e];
 
-// The width of the narrow stripes, how many of them make a wide one, and the chunks that a wide one has.
+// The width of the narrow stripes, how many of them make a wide one, and the chunks that a wide one
+// has.
 const STRIPES: [(u32, u32, u32); 8] = [
     (2, 2, 4),
     (2, 2, 3),
@@ -68,7 +69,8 @@ fn encoded(alloc: Global, width: u32, pieces: &[Chunk], size: u32) -> Result<Vec
     Ok(encode(alloc, &POINTS, width, size, pieces)?)
 }
 
-// A wide stripe of the first `count` rows of `size` bytes, encoded, and merged from its narrow stripes.
+// A wide stripe of the first `count` rows of `size` bytes, encoded, and merged from its narrow
+// stripes.
 fn assert_wide(
     rt: &impl Abort,
     alloc: Global,

@@ -56,7 +56,8 @@ pub fn rows(
     Ok(rows)
 }
 
-// The parity with this point of a stripe of these rows of `size` bytes: the sum of `point ^ t` times row t.
+// The parity with this point of a stripe of these rows of `size` bytes: the sum of `point ^ t`
+// times row t.
 pub fn parity(
     alloc: Global,
     point: u8,

@@ -6,7 +6,8 @@ use crate::plain::{parity, rows};
 use mf_decode::{Asked, Chunk, Memory, Pieces, Place};
 use std::alloc::{AllocError, Global};
 
-// The pieces and the parities of a stripe, None where one is lost, and what was asked for. Each has `size` bytes.
+// The pieces and the parities of a stripe, None where one is lost, and what was asked for. Each has
+// `size` bytes.
 #[derive(Drop)]
 pub struct Store<'a> {
     pub points: &'a [u8],

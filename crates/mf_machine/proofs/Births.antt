@@ -12,7 +12,7 @@ use Rattle.mf_machine.specs.File.{File, Opening, State, HasCell}
 use Rattle.mf_machine.specs.File.Home.{away}
 use Rattle.mf_machine.specs.Ruled.{Ruled}
 use Rattle.mf_machine.specs.Steps as row
-use Rattle.mf_machine.specs.Sums.{in_birth, raises, tally, counts}
+use Rattle.mf_machine.specs.Sums.{in_birth, raises, tally}
 use Rattle.mf_machine.specs.Worlds.{counted}
 use Rattle.mf_machine.proofs.Entering.{silence, reply}
 use Rattle.mf_machine.proofs.Steps.{ButName, After, parts, adds_by}
@@ -41,8 +41,7 @@ module _ (f : File) (k : Opening) (s : State) (id : ℕ) (v : View) (r : Ruled f
       (λ mv up. let m₀ = mv.in_get in let m₁ = mv.in_birth in let m₂ = mv.in_retake in let m₃ = mv.in_lose in let m₄ = mv.in_drop in
       let m₅ = mv.puts in let m₆ = mv.loses in let m₇ = mv.restores in let m₈ = mv.drops in
       word.born_away f k n (s.name n) (s'.name n) (s.home n) (s'.home n)
-      (counts n s.views) (counts n (set s.views id w)) ((tally k s.views).lost_by n) ((tally k (set s.views id w)).lost_by n)
-      (tally k s.views).shuts (tally k (set s.views id w)).shuts (ws.names n inside) unborn now out (omega arith) (omega arith) (omega arith)
+      s.views (set s.views id w) (ws.names n inside) unborn now out (omega arith) (omega arith) (omega arith)
       (omega arith) (omega arith))
       (λ j u ne e h. absurd (one_right f k s id j v u ws at e ne has h)) on ends (λ up. tt)
       record {
@@ -89,8 +88,7 @@ module _ (f : File) (k : Opening) (s : State) (id : ℕ) (v : View) (r : Ruled f
       (λ mv up. let m₀ = mv.in_get in let m₁ = mv.in_birth in let m₂ = mv.in_retake in let m₃ = mv.in_lose in let m₄ = mv.in_drop in
       let m₅ = mv.puts in let m₆ = mv.loses in let m₇ = mv.restores in let m₈ = mv.drops in
       word.shown_here f k n (s.name n) (s'.name n) (s.home n) (s'.home n)
-      (counts n s.views) (counts n (set s.views id w)) ((tally k s.views).lost_by n) ((tally k (set s.views id w)).lost_by n)
-      (tally k s.views).shuts (tally k (set s.views id w)).shuts (ws.names n inside) taken now full (omega arith)
+      s.views (set s.views id w) (ws.names n inside) taken now full (omega arith)
       (omega arith) (omega arith) (omega arith) (omega arith))
       (λ up. (tt, alive))
       (λ old. record {

@@ -12,7 +12,7 @@ use Rattle.mf_machine.specs.File.{File, Opening, State, Holds}
 use Rattle.mf_machine.specs.File.Home.{away, empty}
 use Rattle.mf_machine.specs.Ruled.{Ruled}
 use Rattle.mf_machine.specs.Steps as row
-use Rattle.mf_machine.specs.Sums.{in_get, in_birth, in_retake, in_lose, in_drop, hides, tally, counts}
+use Rattle.mf_machine.specs.Sums.{in_get, in_birth, in_retake, in_lose, in_drop, hides, tally}
 use Rattle.mf_machine.specs.Worlds.{counted}
 use Rattle.mf_machine.proofs.Entering.{silence, reply}
 use Rattle.mf_machine.proofs.Frames.{Onward, Builds, Ends, shown_shut, sits_on}
@@ -55,8 +55,7 @@ module _ (f : File) (k : Opening) (s : State) (id : ℕ) (v : View) (r : Ruled f
       (λ mv up. let m₀ = mv.in_get in let m₁ = mv.in_birth in let m₂ = mv.in_retake in let m₃ = mv.in_lose in let m₄ = mv.in_drop in
       let m₅ = mv.puts in let m₆ = mv.loses in let m₇ = mv.restores in let m₈ = mv.drops in
       word.hidden_away f k n (s.name n) (s'.name n) (s.home n) (s'.home n)
-      (counts n s.views) (counts n (set s.views id w)) ((tally k s.views).lost_by n) ((tally k (set s.views id w)).lost_by n)
-      (tally k s.views).shuts (tally k (set s.views id w)).shuts (ws.names n inside) here now out (omega arith) (omega arith) (omega arith) (omega arith)
+      s.views (set s.views id w) (ws.names n inside) here now out (omega arith) (omega arith) (omega arith) (omega arith)
       (omega arith))
       (λ up. tt)
       (λ old. record {
@@ -95,8 +94,7 @@ module _ (f : File) (k : Opening) (s : State) (id : ℕ) (v : View) (r : Ruled f
       (λ mv up. let m₀ = mv.in_get in let m₁ = mv.in_birth in let m₂ = mv.in_retake in let m₃ = mv.in_lose in let m₄ = mv.in_drop in
       let m₅ = mv.puts in let m₆ = mv.loses in let m₇ = mv.restores in let m₈ = mv.drops in
       word.shown_dropped f k n (s.name n) (s'.name n) (s.home n) (s'.home n)
-      (counts n s.views) (counts n (set s.views id w)) ((tally k s.views).lost_by n) ((tally k (set s.views id w)).lost_by n)
-      (tally k s.views).shuts (tally k (set s.views id w)).shuts (ws.names n inside) taken now bare
+      s.views (set s.views id w) (ws.names n inside) taken now bare
       (λ g l h. let a = shut n (mine.inside.dropping n has_it).1 g l h in let b = up.shuts g in omega arith) (omega arith) (omega arith) (omega arith))
       (λ up. (tt, now))
       (λ old. record {
@@ -135,8 +133,7 @@ module _ (f : File) (k : Opening) (s : State) (id : ℕ) (v : View) (r : Ruled f
       (λ mv up. let m₀ = mv.in_get in let m₁ = mv.in_birth in let m₂ = mv.in_retake in let m₃ = mv.in_lose in let m₄ = mv.in_drop in
       let m₅ = mv.puts in let m₆ = mv.loses in let m₇ = mv.restores in let m₈ = mv.drops in
       word.lost_dropped f k n (s.name n) (s'.name n) (s.home n) (s'.home n)
-      (counts n s.views) (counts n (set s.views id w)) ((tally k s.views).lost_by n) ((tally k (set s.views id w)).lost_by n)
-      (tally k s.views).shuts (tally k (set s.views id w)).shuts (ws.names n inside) lost now stays
+      s.views (set s.views id w) (ws.names n inside) lost now stays
       (λ g l h. let a = shut n try.1 g l h in let b = up.shuts g in omega arith) (omega arith) (omega arith) (omega arith))
       (λ j u ne e h. builds) on ends (λ up. (tt, now))
       (record {

@@ -12,7 +12,7 @@ use Rattle.mf_machine.specs.Answers.{closed}
 use Rattle.mf_machine.specs.Ruled.{Sits, StraysKnow, LastIs, RightIs, BuildIs, PinsKnow, InsideIs, NumberIs, PinsAre, NameIs, Words, SitsIn, Ruled}
 use Rattle.mf_machine.specs.Sums.{right_of, share_of, stray, pins, publishings, closings, puts, loses, loses_by}
 use Rattle.mf_machine.specs.Sums.{restores, drops, in_get, in_birth, in_retake, in_lose, in_drop, begun_of, opened_of}
-use Rattle.mf_machine.specs.Sums.{raises, sinks, hides, lost_bit, Tally, tally, Counts, counts}
+use Rattle.mf_machine.specs.Sums.{raises, sinks, hides, lost_bit, Tally, tally}
 use Rattle.mf_machine.specs.Worlds.{spent_view}
 use Rattle.mf_machine.proofs.Lists.{at_set}
 use Rattle.mf_machine.proofs.Entering.{Tale, silence, reply, Known, known, tell, gone_left}
@@ -79,7 +79,32 @@ adds_calm t v w e i = let a : Adds (adds_of (known v)) (adds_of (known w)) = sub
     adds_by t v w e (λ n. let b = a.raises n in let d = ap (λ (z : Inside). has n z.bearing + has n z.retaking) i in omega arith)
     (λ n. let b = a.hides n in let d = ap (λ (z : Inside). has n z.losing + has n z.dropping) i in omega arith)
 
--- the sums of one name, of one actor
+-- the sums of one name
+pub record Counts : Type 0 where
+  pub in_get : ℕ
+  pub in_birth : ℕ
+  pub in_retake : ℕ
+  pub in_lose : ℕ
+  pub in_drop : ℕ
+  pub puts : ℕ
+  pub loses : ℕ
+  pub restores : ℕ
+  pub drops : ℕ
+
+abbrev pub counts : ℕ → List View → Counts
+counts n vs = record {
+  in_get = total (in_get n) vs;
+  in_birth = total (in_birth n) vs;
+  in_retake = total (in_retake n) vs;
+  in_lose = total (in_lose n) vs;
+  in_drop = total (in_drop n) vs;
+  puts = total (puts n) vs;
+  loses = total (loses n) vs;
+  restores = total (restores n) vs;
+  drops = total (drops n) vs;
+}
+
+-- those of one actor
 abbrev pub parts : ℕ → View → Counts
 parts n v = record {
   in_get = in_get n v;
@@ -204,10 +229,9 @@ module _ (f : File) (k : Opening) (vs : List View) (id : ℕ) (v w : View) (at :
   }
 
   -- a name that the step doesn't touch
-  pub name_else : (n x x' : ℕ) (h h' : Home) (sh sh' : ℕ → ℕ) → NameIs f k n x h (counts n vs) ((tally k vs).lost_by n) sh → Part n v w → x' ≡ x
-      → h' ≡ h → ((g : ℕ) → sh g ≤ sh' g)
-      → NameIs f k n x' h' (counts n (set vs id w)) ((tally k (set vs id w)).lost_by n) sh'
-  name_else n x x' h h' sh sh' r p ex eh up = let m = moved n vs id v w at in let e = p.counts in
+  pub name_else : (n x x' : ℕ) (h h' : Home) → NameIs f k n x h vs → Part n v w → x' ≡ x → h' ≡ h → ((g : ℕ) → closings g v ≤ closings g w)
+      → NameIs f k n x' h' (set vs id w)
+  name_else n x x' h h' r p ex eh up = let m = moved n vs id v w at in let e = p.counts in
       let c : Counts = counts n vs in let c' : Counts = counts n (set vs id w) in
       let c₁ : c'.in_get ≡ c.in_get = (let a = m.in_get in let b = ap (λ (z : Counts). z.in_get) e in omega arith) in
       let c₂ : c'.in_birth ≡ c.in_birth = (let a = m.in_birth in let b = ap (λ (z : Counts). z.in_birth) e in omega arith) in
@@ -225,7 +249,7 @@ module _ (f : File) (k : Opening) (vs : List View) (id : ℕ) (v w : View) (at :
         lost = λ ne. let t = r.lost (λ e. ne (ex ∙ e)) in omega arith;
         line = λ l e. let t = r.line l (sym ex ∙ e) in let q = total_same (loses_by n l) vs id v w at (p.lost_by l) in
             let u = t.0 in (omega arith, t.1);
-        left = λ e g l q. let t = r.left (sym ex ∙ e) g l q in let u = up g in omega arith;
+        left = λ e g l q. let t = r.left (sym ex ∙ e) g l q in let u = total_grows (closings g) vs id v w at (up g) in omega arith;
         here = λ e. subst (λ (y : Home). HasCell f n y) (sym eh) (r.here (sym ex ∙ e));
         out = λ e. eh ∙ r.out (sym ex ∙ e);
         bare = λ a b. eh ∙ r.bare (λ e. a (ex ∙ e)) (λ e. b (ex ∙ e));
@@ -258,8 +282,7 @@ module _ (f : File) (k : Opening) (s : State) (id : ℕ) (v w : View) (s' : Stat
   -- the words after a step on names: what the gate's words show stays
   pub names_move : Words f k s → get_elem? s.views id ≡ some v → gate w ≡ gate v → s'.number ≡ s.number → s'.right ≡ s.right → ((g : ℕ) → g < f.stages
       → s'.pins g ≡ s.pins g) → Onward s.name s'.name
-      → ((n : ℕ) → n < f.names → NameIs f k n (s'.name n) (s'.home n) (counts n (set s.views id w)) ((tally k (set s.views id w)).lost_by n)
-      (tally k (set s.views id w)).shuts) → Words f k After
+      → ((n : ℕ) → n < f.names → NameIs f k n (s'.name n) (s'.home n) (set s.views id w)) → Words f k After
   names_move ws at a number right pin on names = record {
     number = number_same f k s.views id v w at s.number s'.number ws.number number (ap (λ (z : Gate). z.numbers) a);
     right = right ∙ (ws.right ∙ sym (total_same right_of s.views id v w at (ap (λ (z : Gate). z.right) a)));
@@ -274,16 +297,13 @@ module _ (f : File) (k : Opening) (s : State) (id : ℕ) (v w : View) (s' : Stat
   -- the names after a step that touches none
   pub names_part : Words f k s → get_elem? s.views id ≡ some v → ((n : ℕ) → Part n v w) → ((n : ℕ) → s'.name n ≡ s.name n) → ((n : ℕ) → s'.home n ≡ s.home n)
       → ((g : ℕ) → closings g v ≤ closings g w)
-      → (n : ℕ) → n < f.names → NameIs f k n (s'.name n) (s'.home n) (counts n (set s.views id w)) ((tally k (set s.views id w)).lost_by n)
-      (tally k (set s.views id w)).shuts
-  names_part ws at part name home up n l = name_else f k s.views id v w at n (s.name n) (s'.name n) (s.home n) (s'.home n)
-      (tally k s.views).shuts (tally k (set s.views id w)).shuts (ws.names n l) (part n) (name n) (home n)
-      (λ g. let t = total_grows (closings g) s.views id v w at (up g) in omega arith)
+      → (n : ℕ) → n < f.names → NameIs f k n (s'.name n) (s'.home n) (set s.views id w)
+  names_part ws at part name home up n l = name_else f k s.views id v w at n (s.name n) (s'.name n) (s.home n) (s'.home n) (ws.names n l) (part n) (name n)
+      (home n) up
 
   pub names_calm : Words f k s → get_elem? s.views id ≡ some v → w.made.changes ≡ v.made.changes → w.inside ≡ v.inside → ((n : ℕ)
       → s'.name n ≡ s.name n) → ((n : ℕ) → s'.home n ≡ s.home n) → ((g : ℕ) → closings g v ≤ closings g w)
-      → (n : ℕ) → n < f.names → NameIs f k n (s'.name n) (s'.home n) (counts n (set s.views id w)) ((tally k (set s.views id w)).lost_by n)
-      (tally k (set s.views id w)).shuts
+      → (n : ℕ) → n < f.names → NameIs f k n (s'.name n) (s'.home n) (set s.views id w)
   names_calm ws at c i name home up = names_part ws at (λ n. part_same n v w c i) name home up
 
   -- which generations were born

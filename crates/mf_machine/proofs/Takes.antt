@@ -11,7 +11,7 @@ use Rattle.mf_machine.specs.File.Home.{away}
 use Rattle.mf_machine.specs.Rest.{Rest}
 use Rattle.mf_machine.specs.Ruled.{Ruled}
 use Rattle.mf_machine.specs.Steps as row
-use Rattle.mf_machine.specs.Sums.{in_get, tally, counts}
+use Rattle.mf_machine.specs.Sums.{in_get}
 use Rattle.mf_machine.specs.Worlds.{counted, noted, steps}
 use Rattle.mf_machine.proofs.Entering.{silence, reply}
 use Rattle.mf_machine.proofs.Lists.{bit_is, bit_not, bit_eq}
@@ -36,8 +36,7 @@ module _ (f : File) (k : Opening) (s : State) (id : ℕ) (v : View) (rest : Rest
       (λ mv up. let m₀ = mv.in_get in let m₁ = mv.in_birth in let m₂ = mv.in_retake in let m₃ = mv.in_lose in let m₄ = mv.in_drop in
       let m₅ = mv.puts in let m₆ = mv.loses in let m₇ = mv.restores in let m₈ = mv.drops in
       word.hidden_away f k n (s.name n) (s'.name n) (s.home n) (s'.home n)
-      (counts n s.views) (counts n (set s.views id w)) ((tally k s.views).lost_by n) ((tally k (set s.views id w)).lost_by n)
-      (tally k s.views).shuts (tally k (set s.views id w)).shuts (ws.names n inside) here now out (omega arith) (omega arith) (omega arith) (omega arith)
+      s.views (set s.views id w) (ws.names n inside) here now out (omega arith) (omega arith) (omega arith) (omega arith)
       (omega arith))
       (λ up. (let b = up.raised n in omega arith, alive))
       (λ old. record {
@@ -70,8 +69,7 @@ module _ (f : File) (k : Opening) (s : State) (id : ℕ) (v : View) (rest : Rest
       (λ mv up. let m₀ = mv.in_get in let m₁ = mv.in_birth in let m₂ = mv.in_retake in let m₃ = mv.in_lose in let m₄ = mv.in_drop in
       let m₅ = mv.puts in let m₆ = mv.loses in let m₇ = mv.restores in let m₈ = mv.drops in
       word.shown_here f k n (s.name n) (s'.name n) (s.home n) (s'.home n)
-      (counts n s.views) (counts n (set s.views id w)) ((tally k s.views).lost_by n) ((tally k (set s.views id w)).lost_by n)
-      (tally k s.views).shuts (tally k (set s.views id w)).shuts (ws.names n inside) taken now full (omega arith) (omega arith) (omega arith)
+      s.views (set s.views id w) (ws.names n inside) taken now full (omega arith) (omega arith) (omega arith)
       (omega arith) (omega arith))
       (λ up. tt)
       (λ old. record {

@@ -12,13 +12,12 @@ use Rattle.mf_machine.specs.Counts.{bit, truth, times, total, lines}
 use Rattle.mf_machine.specs.File.{File, Opening, State, Holds, IsLoseLine, Home, HasCell, Unharmed}
 use Rattle.mf_machine.specs.Ruled.{NameIs, Words, Sits, Ruled}
 use Rattle.mf_machine.specs.Sums.{puts, loses, restores, drops, in_birth, in_get, in_retake, in_lose, in_drop, raises, sinks}
-use Rattle.mf_machine.specs.Sums.{hides, lost_bit, Tally, tally, Counts, counts, closings}
+use Rattle.mf_machine.specs.Sums.{hides, lost_bit, Tally, tally, closings}
 use Rattle.mf_machine.specs.File.Home.{away, empty, keeps}
 use Rattle.mf_machine.proofs.Lists.{bit_not, times_cons}
-use Rattle.mf_machine.proofs.Totals.{total_grows}
 use Rattle.mf_machine.proofs.Entering.{Tale, known, tell}
 use Rattle.mf_machine.proofs.Frames.{Grows, Onward, Builds, Ends, Says, sits_on}
-use Rattle.mf_machine.proofs.Steps.{Adds, After, ButName, Gate, gate, Mine, Moved, moved, Part, parts, grows, name_else, names_move, stepped}
+use Rattle.mf_machine.proofs.Steps.{Counts, counts, Adds, After, ButName, Gate, gate, Mine, Moved, moved, Part, parts, grows, name_else, names_move, stepped}
 
 -- the bits of a word
 pub lost_is : (w : ℕ) → 4 ≤ w → lost_bit w ≡ 1
@@ -50,12 +49,18 @@ pub cell_is : (f : File) (n : ℕ) (h : Home) → HasCell f n h → h ≡ keeps 
 unfolding HasCell Unharmed
 cell_is f n h has = has tt
 
-module _ (f : File) (k : Opening) (n x x' : ℕ) (h h' : Home) (c c' : Counts) (lb lb' sh sh' : ℕ → ℕ) (r : NameIs f k n x h c lb sh) where
+module _ (f : File) (k : Opening) (n x x' : ℕ) (h h' : Home) (vs vs' : List View) (r : NameIs f k n x h vs) where
+  abbrev c : Counts
+  c = counts n vs
+
+  abbrev c' : Counts
+  c' = counts n vs'
+
   -- Here to Taken
   pub hidden_away : x ≡ 1 → x' ≡ 2 → h' ≡ away
       → c'.in_get + c'.in_birth + c'.in_retake + c'.in_lose + c'.in_drop ≡ c.in_get + c.in_birth + c.in_retake + c.in_lose + c.in_drop + 1
       → c'.puts + c'.in_birth ≡ c.puts + c.in_birth → c'.drops ≡ c.drops → c'.loses ≡ c.loses → c'.restores + c'.in_retake ≡ c.restores + c.in_retake
-      → NameIs f k n x' h' c' lb' sh'
+      → NameIs f k n x' h' vs'
   hidden_away e e' out tk pb dr lo rr = let b = bits_low x 1 e in let b₀ = b.0 in let b₂ = b.1 in let b₃ = b.2 in let b₄ = b.3 in
       let d = bits_low x' 2 e' in let d₀ = d.0 in let d₂ = d.1 in let d₃ = d.2 in let d₄ = d.3 in record {
         taken = let t = r.taken in omega arith;
@@ -73,7 +78,7 @@ module _ (f : File) (k : Opening) (n x x' : ℕ) (h h' : Home) (c c' : Counts) (
   pub born_away : x ≡ 0 → x' ≡ 2 → h' ≡ away
       → c'.in_get + c'.in_birth + c'.in_retake + c'.in_lose + c'.in_drop ≡ c.in_get + c.in_birth + c.in_retake + c.in_lose + c.in_drop + 1
       → c'.puts + c'.in_birth ≡ c.puts + c.in_birth + 1 → c'.drops ≡ c.drops → c'.loses ≡ c.loses
-      → c'.restores + c'.in_retake ≡ c.restores + c.in_retake → NameIs f k n x' h' c' lb' sh'
+      → c'.restores + c'.in_retake ≡ c.restores + c.in_retake → NameIs f k n x' h' vs'
   born_away e e' out tk pb dr lo rr = let b = bits_low x 0 e in let b₀ = b.0 in let b₂ = b.1 in let b₃ = b.2 in let b₄ = b.3 in
       let d = bits_low x' 2 e' in let d₀ = d.0 in let d₂ = d.1 in let d₃ = d.2 in let d₄ = d.3 in record {
         taken = let t = r.taken in omega arith;
@@ -91,7 +96,7 @@ module _ (f : File) (k : Opening) (n x x' : ℕ) (h h' : Home) (c c' : Counts) (
   pub lost_away : 4 ≤ x → x' ≡ 2 → h' ≡ away
       → c'.in_get + c'.in_birth + c'.in_retake + c'.in_lose + c'.in_drop ≡ c.in_get + c.in_birth + c.in_retake + c.in_lose + c.in_drop + 1
       → c'.puts + c'.in_birth ≡ c.puts + c.in_birth → c'.drops ≡ c.drops → c'.loses ≡ c.loses
-      → c'.restores + c'.in_retake ≡ c.restores + c.in_retake + 1 → NameIs f k n x' h' c' lb' sh'
+      → c'.restores + c'.in_retake ≡ c.restores + c.in_retake + 1 → NameIs f k n x' h' vs'
   lost_away e e' out tk pb dr lo rr = let b = bits_lost x e in let b₀ = b.0 in let b₂ = b.1 in let b₃ = b.2 in let b₄ = b.3 in
       let d = bits_low x' 2 e' in let d₀ = d.0 in let d₂ = d.1 in let d₃ = d.2 in let d₄ = d.3 in record {
         taken = let t = r.taken in omega arith;
@@ -109,7 +114,7 @@ module _ (f : File) (k : Opening) (n x x' : ℕ) (h h' : Home) (c c' : Counts) (
   pub shown_here : x ≡ 2 → x' ≡ 1 → HasCell f n h'
       → c'.in_get + c'.in_birth + c'.in_retake + c'.in_lose + c'.in_drop + 1 ≡ c.in_get + c.in_birth + c.in_retake + c.in_lose + c.in_drop
       → c'.puts + c'.in_birth ≡ c.puts + c.in_birth → c'.drops ≡ c.drops → c'.loses ≡ c.loses → c'.restores + c'.in_retake ≡ c.restores + c.in_retake
-      → NameIs f k n x' h' c' lb' sh'
+      → NameIs f k n x' h' vs'
   shown_here e e' full tk pb dr lo rr = let b = bits_low x 2 e in let b₀ = b.0 in let b₂ = b.1 in let b₃ = b.2 in let b₄ = b.3 in
       let d = bits_low x' 1 e' in let d₀ = d.0 in let d₂ = d.1 in let d₃ = d.2 in let d₄ = d.3 in record {
         taken = let t = r.taken in omega arith;
@@ -124,17 +129,17 @@ module _ (f : File) (k : Opening) (n x x' : ℕ) (h h' : Home) (c c' : Counts) (
       }
 
   -- Taken to Lost
-  pub shown_lost : (l : ℕ) → x ≡ 2 → x' ≡ 4 + l → h' ≡ empty → 0 < lb' l → IsLoseLine f n l
+  pub shown_lost : (l : ℕ) → x ≡ 2 → x' ≡ 4 + l → h' ≡ empty → 0 < (tally k vs').lost_by n l → IsLoseLine f n l
       → c'.in_get + c'.in_birth + c'.in_retake + c'.in_lose + c'.in_drop + 1 ≡ c.in_get + c.in_birth + c.in_retake + c.in_lose + c.in_drop
       → c'.puts + c'.in_birth ≡ c.puts + c.in_birth → c'.drops ≡ c.drops → c'.loses ≡ c.loses + 1
-      → c'.restores + c'.in_retake ≡ c.restores + c.in_retake → NameIs f k n x' h' c' lb' sh'
+      → c'.restores + c'.in_retake ≡ c.restores + c.in_retake → NameIs f k n x' h' vs'
   shown_lost l e e' bare by lose tk pb dr lo rr = let b = bits_low x 2 e in let b₀ = b.0 in let b₂ = b.1 in let b₃ = b.2 in let b₄ = b.3 in
       let d = bits_lost x' (omega arith) in let d₀ = d.0 in let d₂ = d.1 in let d₃ = d.2 in let d₄ = d.3 in record {
         taken = let t = r.taken in omega arith;
         born = let t = r.born in omega arith;
         dropped = let t = r.dropped in omega arith;
         lost = λ _. let t = r.lost (λ z. omega arith) in omega arith;
-        line = λ j z. let same : l ≡ j = omega arith in subst (λ y. (0 < lb' y) × IsLoseLine f n y) same (by, lose);
+        line = λ j z. let same : l ≡ j = omega arith in subst (λ y. (0 < (tally k vs').lost_by n y) × IsLoseLine f n y) same (by, lose);
         left = λ z. absurd (omega arith);
         here = λ z. absurd (omega arith);
         out = λ z. absurd (omega arith);
@@ -142,9 +147,9 @@ module _ (f : File) (k : Opening) (n x x' : ℕ) (h h' : Home) (c c' : Counts) (
       }
 
   -- Taken to Dropped
-  pub shown_dropped : x ≡ 2 → x' ≡ 3 → h' ≡ empty → ((g : ℕ) → g < f.stages → Holds f g n → 0 < sh' g)
+  pub shown_dropped : x ≡ 2 → x' ≡ 3 → h' ≡ empty → ((g : ℕ) → g < f.stages → Holds f g n → 0 < (tally k vs').shuts g)
       → c'.in_get + c'.in_birth + c'.in_retake + c'.in_lose + c'.in_drop + 1 ≡ c.in_get + c.in_birth + c.in_retake + c.in_lose + c.in_drop
-      → c'.puts + c'.in_birth ≡ c.puts + c.in_birth → c'.drops ≡ c.drops + 1 → NameIs f k n x' h' c' lb' sh'
+      → c'.puts + c'.in_birth ≡ c.puts + c.in_birth → c'.drops ≡ c.drops + 1 → NameIs f k n x' h' vs'
   shown_dropped e e' bare left tk pb dr = let b = bits_low x 2 e in let b₀ = b.0 in let b₂ = b.1 in let b₃ = b.2 in let d = bits_low x' 3 e' in
       let d₀ = d.0 in let d₂ = d.1 in let d₃ = d.2 in record {
         taken = let t = r.taken in omega arith;
@@ -159,9 +164,9 @@ module _ (f : File) (k : Opening) (n x x' : ℕ) (h h' : Home) (c c' : Counts) (
       }
 
   -- Lost to Dropped
-  pub lost_dropped : 4 ≤ x → x' ≡ 3 → h' ≡ h → ((g : ℕ) → g < f.stages → Holds f g n → 0 < sh' g)
+  pub lost_dropped : 4 ≤ x → x' ≡ 3 → h' ≡ h → ((g : ℕ) → g < f.stages → Holds f g n → 0 < (tally k vs').shuts g)
       → c'.in_get + c'.in_birth + c'.in_retake + c'.in_lose + c'.in_drop ≡ c.in_get + c.in_birth + c.in_retake + c.in_lose + c.in_drop
-      → c'.puts + c'.in_birth ≡ c.puts + c.in_birth → c'.drops ≡ c.drops + 1 → NameIs f k n x' h' c' lb' sh'
+      → c'.puts + c'.in_birth ≡ c.puts + c.in_birth → c'.drops ≡ c.drops + 1 → NameIs f k n x' h' vs'
   lost_dropped e e' same left tk pb dr = let b = bits_lost x e in let b₀ = b.0 in let b₂ = b.1 in let b₃ = b.2 in let d = bits_low x' 3 e' in
       let d₀ = d.0 in let d₂ = d.1 in let d₃ = d.2 in record {
         taken = let t = r.taken in omega arith;
@@ -208,22 +213,18 @@ back_else m n place ne e = let a = bit_not place (m + 1) (λ z. ne (omega arith)
 pub names_at : (f : File) (k : Opening) (s : State) (id : ℕ) (v w : View) (name' : ℕ → ℕ) (home' : ℕ → Home) (n : ℕ) → Words f k s
     → get_elem? s.views id ≡ some v → ((g : ℕ) → closings g v ≤ closings g w)
     → ((m : ℕ) → m ≢ n → name' m ≡ s.name m) → ((m : ℕ) → m ≢ n → home' m ≡ s.home m) → ((m : ℕ) → m ≢ n → Part m v w)
-    → NameIs f k n (name' n) (home' n) (counts n (set s.views id w)) ((tally k (set s.views id w)).lost_by n) (tally k (set s.views id w)).shuts
-    → (m : ℕ) → m < f.names → NameIs f k m (name' m) (home' m) (counts m (set s.views id w)) ((tally k (set s.views id w)).lost_by m)
-    (tally k (set s.views id w)).shuts
+    → NameIs f k n (name' n) (home' n) (set s.views id w)
+    → (m : ℕ) → m < f.names → NameIs f k m (name' m) (home' m) (set s.views id w)
 names_at f k s id v w name' home' n ws at up names homes parts here m l = dite (ℕ_discrete m n)
-    (λ e. subst (λ z. NameIs f k z (name' z) (home' z) (counts z (set s.views id w)) ((tally k (set s.views id w)).lost_by z)
-    (tally k (set s.views id w)).shuts) (sym e) here)
-    (λ ne. name_else f k s.views id v w at m (s.name m) (name' m) (s.home m) (home' m)
-    (tally k s.views).shuts (tally k (set s.views id w)).shuts (ws.names m l) (parts m ne) (names m ne) (homes m ne)
-    (λ g. let t = total_grows (closings g) s.views id v w at (up g) in omega arith))
+    (λ e. subst (λ z. NameIs f k z (name' z) (home' z) (set s.views id w)) (sym e) here)
+    (λ ne. name_else f k s.views id v w at m (s.name m) (name' m) (s.home m) (home' m) (ws.names m l) (parts m ne) (names m ne) (homes m ne) up)
 
 -- a step on the name n
 pub named : (f : File) (k : Opening) (s : State) (id : ℕ) (v w : View) (s' : State) (n : ℕ) (t : Tale)
     → known w ≡ tell t (known v) → Ruled f k s → get_elem? s.views id ≡ some v → gate w ≡ gate v → ButName f s n s'
     → ((m : ℕ) → m ≢ n → Part m v w) → Adds v w
     → (Moved (counts n s.views) (counts n (set s.views id w)) (parts n v) (parts n w) → Grows (tally k s.views) (tally k (set s.views id w))
-    → NameIs f k n (s'.name n) (s'.home n) (counts n (set s.views id w)) ((tally k (set s.views id w)).lost_by n) (tally k (set s.views id w)).shuts)
+    → NameIs f k n (s'.name n) (s'.home n) (set s.views id w))
     → ((j : ℕ) (u : View) → j ≢ id → get_elem? s.views j ≡ some u → u.build.right ≡ 1 → Builds s.name s'.name)
     → Onward s.name s'.name → Ends f (tally k s.views) s.name s'.name
     → (Grows (tally k s.views) (tally k (set s.views id w))
@@ -242,7 +243,7 @@ pub renamed : (f : File) (k : Opening) (s : State) (id : ℕ) (v w : View) (s' :
     → known w ≡ tell t (known v) → Ruled f k s → get_elem? s.views id ≡ some v → gate w ≡ gate v → ButName f s n s'
     → (0 < s.name n) × (s.name n < 3) → s'.name n ≢ 0 → ((m : ℕ) → m ≢ n → Part m v w) → Adds v w
     → (Moved (counts n s.views) (counts n (set s.views id w)) (parts n v) (parts n w) → Grows (tally k s.views) (tally k (set s.views id w))
-    → NameIs f k n (s'.name n) (s'.home n) (counts n (set s.views id w)) ((tally k (set s.views id w)).lost_by n) (tally k (set s.views id w)).shuts)
+    → NameIs f k n (s'.name n) (s'.home n) (set s.views id w))
     → (Grows (tally k s.views) (tally k (set s.views id w))
     → Says f k s.number s'.number s.name s'.name (tally k s.views) (tally k (set s.views id w)) t v.own)
     → (Sits f k s'.number s'.name (tally k (set s.views id w)) v → Mine f k s id v w s')

@@ -14,7 +14,8 @@ use Rattle.mf_machine.specs.Answers.{Answer, number, refused, missed, closed, al
 use Rattle.mf_machine.specs.Answers.{not_lost, not_dropped, often}
 use Rattle.mf_machine.specs.Counts.{bit, times, total}
 use Rattle.mf_machine.specs.File.{File, removed, Opening, State, Holds, IsLoseLine, Home, HasCell}
-use Rattle.mf_machine.specs.Sums.{right_of, share_of, pins, publishings, lost_bit, Tally, tally, Counts, counts}
+use Rattle.mf_machine.specs.Sums.{right_of, share_of, pins, publishings, lost_bit, puts, loses, restores, drops}
+use Rattle.mf_machine.specs.Sums.{in_get, in_birth, in_retake, in_lose, in_drop, Tally, tally}
 use Rattle.mf_machine.specs.Words as word
 use Rattle.mf_machine.specs.Words.{number_of, closed_bit, IsLost}
 use Rattle.mf_machine.specs.Worlds.{spent_view}
@@ -34,13 +35,15 @@ pub record PinsAre (p g x shuts alive all : ℕ) : Type 0 where
   pub low : 0 < shuts → (number_of g < p) × (alive ≡ 0)
 
 -- one name: its word w, its slot, and its sums
-pub record NameIs (f : File) (k : Opening) (n w : ℕ) (home : Home) (c : Counts) (lost_by shuts : ℕ → ℕ) : Type 0 where
-  pub taken : c.in_get + c.in_birth + c.in_retake + c.in_lose + c.in_drop ≡ bit w word.taken
-  pub born : c.puts + c.in_birth + bit w word.unborn ≡ bit (k.name n) word.unborn
-  pub dropped : c.drops + bit (k.name n) word.dropped ≡ bit w word.dropped
-  pub lost : w ≢ word.dropped → c.loses + lost_bit (k.name n) ≡ c.restores + c.in_retake + lost_bit w
-  pub line : (l : ℕ) → w ≡ word.lost l → (0 < lost_by l) × IsLoseLine f n l
-  pub left : w ≡ word.dropped → (g : ℕ) → g < f.stages → Holds f g n → 0 < shuts g
+pub record NameIs (f : File) (k : Opening) (n w : ℕ) (home : Home) (vs : List View) : Type 0 where
+  pub taken : total (in_get n) vs + total (in_birth n) vs + total (in_retake n) vs + total (in_lose n) vs
+      + total (in_drop n) vs ≡ bit w word.taken
+  pub born : total (puts n) vs + total (in_birth n) vs + bit w word.unborn ≡ bit (k.name n) word.unborn
+  pub dropped : total (drops n) vs + bit (k.name n) word.dropped ≡ bit w word.dropped
+  pub lost : w ≢ word.dropped
+      → total (loses n) vs + lost_bit (k.name n) ≡ total (restores n) vs + total (in_retake n) vs + lost_bit w
+  pub line : (l : ℕ) → w ≡ word.lost l → (0 < (tally k vs).lost_by n l) × IsLoseLine f n l
+  pub left : w ≡ word.dropped → (g : ℕ) → g < f.stages → Holds f g n → 0 < (tally k vs).shuts g
   pub here : w ≡ word.here → HasCell f n home
   pub out : w ≡ word.taken → home ≡ away
   pub bare : w ≢ word.here → w ≢ word.taken → home ≡ empty
@@ -54,7 +57,7 @@ pub record Words (f : File) (k : Opening) (s : State) : Type 0 where
   pub pins : (g : ℕ) → g < f.stages
       → PinsAre s.number g (s.pins g) ((tally k s.views).shuts g) (total (live g) s.views) (total (pins g) s.views)
   pub names : (n : ℕ) → n < f.names
-      → NameIs f k n (s.name n) (s.home n) (counts n s.views) ((tally k s.views).lost_by n) (tally k s.views).shuts
+      → NameIs f k n (s.name n) (s.home n) s.views
   pub born : (g : ℕ) → g < f.stages → 0 < (tally k s.views).heard (number_of g)
       → (n : ℕ) → n < f.names → Holds f g n → s.name n ≢ word.unborn
 

@@ -108,28 +108,3 @@ tally k vs = record {
   begun = total begun_of vs;
   opened = λ g. total (opened_of g) vs;
 }
-
--- the sums of one name
-pub record Counts : Type 0 where
-  pub in_get : ℕ
-  pub in_birth : ℕ
-  pub in_retake : ℕ
-  pub in_lose : ℕ
-  pub in_drop : ℕ
-  pub puts : ℕ
-  pub loses : ℕ
-  pub restores : ℕ
-  pub drops : ℕ
-
-abbrev pub counts : ℕ → List View → Counts
-counts n vs = record {
-  in_get = total (in_get n) vs;
-  in_birth = total (in_birth n) vs;
-  in_retake = total (in_retake n) vs;
-  in_lose = total (in_lose n) vs;
-  in_drop = total (in_drop n) vs;
-  puts = total (puts n) vs;
-  loses = total (loses n) vs;
-  restores = total (restores n) vs;
-  drops = total (drops n) vs;
-}

@@ -25,7 +25,7 @@ use Rattle.mf_machine.proofs.Words.{onward_at, builds_at, ends_at, outside_of, t
 
 -- a Taken name of closed generations alone is inside a lose or a drop
 pub only_going : (f : File) (k : Opening) (s : State) (n : ℕ) → Ruled f k s → n < f.names → ((g : ℕ) → g < f.stages → Holds f g n
-    → 0 < (tally k s.views).shuts g) → s.name n ≡ 2 → 0 < total (in_lose n) s.views + total (in_drop n) s.views
+    → 0 < tally k s.views (answer.closed g)) → s.name n ≡ 2 → 0 < total (in_lose n) s.views + total (in_drop n) s.views
 only_going f k s n r inside shut is = let t = (r.words.names n inside).taken in let b = bit_is (s.name n) 2 is in
     let none : (h : View → ℕ) → ((j : ℕ) (u : View) → get_elem? s.views j ≡ some u → 0 < h u → ⊥)
     → total h s.views ≡ 0 = λ h no. dite (ℕ_discrete (total h s.views) 0) (λ e. e)
@@ -40,7 +40,7 @@ only_going f k s n r inside shut is = let t = (r.words.names n inside).taken in 
 module _ (f : File) (k : Opening) (s : State) (id : ℕ) (v : View) (r : Ruled f k s) (at : get_elem? s.views id ≡ some v) (active : Active v)
     (s' : State) where
   -- each generation that holds a name which is being dropped is closed
-  shut : (n : ℕ) → AllShown f v.own n → (g : ℕ) → g < f.stages → Holds f g n → 0 < (tally k s.views).shuts g
+  shut : (n : ℕ) → AllShown f v.own n → (g : ℕ) → g < f.stages → Holds f g n → 0 < tally k s.views (answer.closed g)
   shut n shown = shown_shut f k s.number s.number s.name s.name (tally k s.views) (tally k s.views) v.own n (r.each id v at).own shown
 
   -- the name is Here, and becomes Taken
@@ -95,7 +95,7 @@ module _ (f : File) (k : Opening) (s : State) (id : ℕ) (v : View) (r : Ruled f
       let m₅ = mv.puts in let m₆ = mv.loses in let m₇ = mv.restores in let m₈ = mv.drops in
       word.shown_dropped f k n (s.name n) (s'.name n) (s.home n) (s'.home n)
       s.views (set s.views id w) (ws.names n inside) taken now bare
-      (λ g l h. let a = shut n (mine.inside.dropping n has_it).1 g l h in let b = up.shuts g in omega arith) (omega arith) (omega arith) (omega arith))
+      (λ g l h. let a = shut n (mine.inside.dropping n has_it).1 g l h in let b = up (answer.closed g) in omega arith) (omega arith) (omega arith) (omega arith))
       (λ up. (tt, now))
       (λ old. record {
         active = active;
@@ -134,7 +134,7 @@ module _ (f : File) (k : Opening) (s : State) (id : ℕ) (v : View) (r : Ruled f
       let m₅ = mv.puts in let m₆ = mv.loses in let m₇ = mv.restores in let m₈ = mv.drops in
       word.lost_dropped f k n (s.name n) (s'.name n) (s.home n) (s'.home n)
       s.views (set s.views id w) (ws.names n inside) lost now stays
-      (λ g l h. let a = shut n try.1 g l h in let b = up.shuts g in omega arith) (omega arith) (omega arith) (omega arith))
+      (λ g l h. let a = shut n try.1 g l h in let b = up (answer.closed g) in omega arith) (omega arith) (omega arith) (omega arith))
       (λ j u ne e h. builds) on ends (λ up. (tt, now))
       (record {
         active = active;
@@ -182,12 +182,12 @@ module _ (f : File) (k : Opening) (s : State) (id i n : ℕ) (v : View) (r : Rul
       → Ruled f k (record s { views = set s.views id (counted i (s.name n) (row.not_dropped n v)) })
   drops_nothing shown met = let w : View = counted i (s.name n) (row.not_dropped n v) in let mine = r.each id v at in let name = r.words.names n inside in
       let parts = hides_parts n s.views in let b = name.born in let d = name.dropped in
-      let cause : 0 < (tally k s.views).hidden n = ⊎_elim (λ e. let z = bits_low (s.name n) 0 e in let z₀ = z.0 in omega arith) (λ q. ⊎_elim
+      let cause : 0 < tally k s.views (answer.not_dropped n) = ⊎_elim (λ e. let z = bits_low (s.name n) 0 e in let z₀ = z.0 in omega arith) (λ q. ⊎_elim
       (λ e. let c = only_going f k s n r inside (shown_shut f k s.number s.number s.name s.name (tally k s.views)
       (tally k s.views) v.own n mine.own shown) e in omega arith) (λ e. let z = bits_low (s.name n) 3 e in
       let z₃ = z.2 in omega arith) q) met in
       calm f k s id v w (reply (answer.not_dropped n)) refl r at refl (λ m. record { counts = refl; lost_by = λ l. refl })
-      (λ add up. (let b = up.hidden n in omega arith, tt))
+      (λ add up. (let b = up (answer.not_dropped n) in omega arith, tt))
       (λ up. record {
         active = active;
         strays = mine.strays;

@@ -9,6 +9,7 @@ use Rattle.mf_machine.specs.declared.view.Met.{Met}
 use Rattle.mf_machine.specs.declared.view.View.{View}
 use Rattle.mf_machine.specs.Actors.{live}
 use Rattle.mf_machine.specs.Answers as answer
+use Rattle.mf_machine.specs.Answers.{Answer}
 use Rattle.mf_machine.specs.Counts.{times, total, all_begun, all_opened}
 use Rattle.mf_machine.specs.File.{File, Opening, State, Holds}
 use Rattle.mf_machine.specs.Kept.{IsActor, IsMetOf, Stands, Kept}
@@ -16,9 +17,8 @@ use Rattle.mf_machine.specs.Laws.{Someone, Law, RestIsKept, Stays, PinnedStays, 
 use Rattle.mf_machine.specs.Laws.{LastBringsBack, Another, Someone, LeadsBack, CausesLeadBack}
 use Rattle.mf_machine.specs.Rest.{Rest}
 use Rattle.mf_machine.specs.Ruled.{SitsIn, Ruled}
-use Rattle.mf_machine.specs.Sums.{right_of, share_of, pins, publishings, closings, puts, loses, loses_by, restores}
-use Rattle.mf_machine.specs.Sums.{drops, in_get, in_birth, in_retake, in_lose, in_drop, begun_of, opened_of, raises}
-use Rattle.mf_machine.specs.Sums.{sinks, hides}
+use Rattle.mf_machine.specs.Sums.{adds, right_of, share_of, pins, publishings, closings, puts, loses, loses_by, restores}
+use Rattle.mf_machine.specs.Sums.{drops, in_get, in_birth, in_retake, in_lose, in_drop, begun_of, opened_of}
 use Rattle.mf_machine.specs.Worlds.{read, spent_view}
 use Rattle.mf_machine.specs.File.Home.{empty}
 use Rattle.mf_machine.proofs.Lists.{bit_is, bit_not}
@@ -65,6 +65,11 @@ kept_rests f k s r none bare = record {
 pub rest_is_kept : RestIsKept
 rest_is_kept = record { begins = λ f k w rest o. (law f k w (w, [], rest, o, tt, refl)).0; ends = kept_rests }
 
+spent_adds : (x : Answer) → adds x spent_view ≡ 0
+spent_adds (answer.here n) = let z = zero_has n in omega arith
+spent_adds (answer.not_dropped n) = let z = zero_has n in omega arith
+spent_adds x = refl
+
 module _ (f : File) (k : Opening) (s : State) (r : Ruled f k s) (j : ℕ) (v : View) (last : IsLast s j v) where
   -- where one actor has the whole share, its part is the whole
   whole : (h : View → ℕ) → h spent_view ≡ 0 → total h (v ∷ []) ≡ total h s.views
@@ -79,8 +84,6 @@ module _ (f : File) (k : Opening) (s : State) (r : Ruled f k s) (j : ℕ) (v : V
     share = whole share_of (refl);
     alive = λ g. whole (live g) (let z = zero_has g in omega arith);
     pins = λ g. whole (pins g) (let z = zero_has g in omega arith);
-    publishings = λ g. whole (publishings g) (refl);
-    closings = λ g. whole (closings g) (refl);
     in_get = λ g. whole (in_get g) (zero_has g);
     in_birth = λ g. whole (in_birth g) (zero_has g);
     in_retake = λ g. whole (in_retake g) (zero_has g);
@@ -88,15 +91,9 @@ module _ (f : File) (k : Opening) (s : State) (r : Ruled f k s) (j : ℕ) (v : V
     in_drop = λ g. whole (in_drop g) (zero_has g);
     puts = λ g. whole (puts g) (refl);
     loses = λ g. whole (loses g) (refl);
-    loses_by = λ g l. whole (loses_by g l) (refl);
     restores = λ g. whole (restores g) (refl);
     drops = λ g. whole (drops g) (refl);
-    raises = λ g. whole (raises g)
-        (let z = zero_has g in omega arith);
-    sinks = λ g. whole (sinks g) (refl);
-    hides = λ g. whole (hides g) (let z = zero_has g in omega arith);
-    begun = whole begun_of (refl);
-    opened = λ g. whole (opened_of g) (refl);
+    adds = λ x. whole (adds x) (spent_adds x);
   }
 
   pub alone_ruled : Ruled f k (alone s v)

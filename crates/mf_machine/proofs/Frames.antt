@@ -10,22 +10,15 @@ use Rattle.mf_machine.specs.declared.view.View.{View}
 use Rattle.mf_machine.specs.Actors.{busy, PinHolds, AllShown}
 use Rattle.mf_machine.specs.Counts.{times}
 use Rattle.mf_machine.specs.File.{File, Opening, Holds}
-use Rattle.mf_machine.specs.Answers.{Answer, number, refused, missed, closed, already, pinned, unborn, here, lost, put, restored, dropped, not_lost, not_dropped}
+use Rattle.mf_machine.specs.Answers.{Answer, number, refused, missed, closed, already, pinned, begun, opened, here, lost, put, restored, made_lost, dropped}
 use Rattle.mf_machine.specs.Ruled.{Ground, SeenIs, RightIs, BuildIs, InsideIs, MetIs, Sits}
 use Rattle.mf_machine.specs.Sums.{Tally}
 use Rattle.mf_machine.proofs.Entering.{enter, show, often_from, Tale, silence, reply, news, Known, known, tell}
 use Rattle.mf_machine.proofs.Lists.{times_cons}
 
 -- no sum falls
-pub record Grows (a a' : Tally) : Type 0 where
-  pub heard : (n : ℕ) → a.heard n ≤ a'.heard n
-  pub shuts : (g : ℕ) → a.shuts g ≤ a'.shuts g
-  pub lost_by : (n l : ℕ) → a.lost_by n l ≤ a'.lost_by n l
-  pub raised : (n : ℕ) → a.raised n ≤ a'.raised n
-  pub sunk : (n : ℕ) → a.sunk n ≤ a'.sunk n
-  pub hidden : (n : ℕ) → a.hidden n ≤ a'.hidden n
-  pub begun : a.begun ≤ a'.begun
-  pub opened : (g : ℕ) → a.opened g ≤ a'.opened g
+abbrev pub Grows : (a a' : Tally) → Type 0
+Grows a a' = (x : Answer) → a x ≤ a' x
 
 -- no name becomes Unborn, and a dropped one stays so
 pub record Onward (name name' : ℕ → ℕ) : Type 0 where
@@ -39,7 +32,7 @@ pub record Builds (name name' : ℕ → ℕ) : Type 0 where
 
 -- a lost name of closed generations alone is at most dropped
 abbrev pub Ends : File → Tally → (name name' : ℕ → ℕ) → Type 0
-Ends f a name name' = (n : ℕ) → ((g : ℕ) → g < f.stages → Holds f g n → 0 < a.shuts g) → 4 ≤ name n → (name' n ≡ name n) ⊎ (name' n ≡ 3)
+Ends f a name name' = (n : ℕ) → ((g : ℕ) → g < f.stages → Holds f g n → 0 < a (closed g)) → 4 ≤ name n → (name' n ≡ name n) ⊎ (name' n ≡ 3)
 
 pub onward_same : (name : ℕ → ℕ) → Onward name name
 onward_same name = record { born = λ n e. e; dropped = λ n e. e }
@@ -75,14 +68,14 @@ module _ (f : File) (k : Opening) (p p' : ℕ) (name name' : ℕ → ℕ) (a a' 
   pub seen_on : (s : Seen) → SeenIs p name a s → p ≤ p' → Grows a a' → Onward name name' → SeenIs p' name' a' s
   seen_on s r up g on = record {
     low = let l = r.low in omega arith;
-    heard = λ z. let h = r.heard z in let q = g.heard s.number in omega arith;
-    shut = λ n h. let t = r.shut n h in let q = g.shuts n in omega arith;
+    heard = λ z. let h = r.heard z in let q = g (number s.number) in omega arith;
+    shut = λ n h. let t = r.shut n h in let q = g (closed n) in omega arith;
     born = λ n h e. r.born n h (on.born n e);
     dropped = λ n h. on.dropped n (r.dropped n h);
   }
 
-  pub right_on : (b : Build) (last begun : ℕ) → RightIs p b last begun → (b.right ≡ 1 → p' ≡ p) → RightIs p' b last begun
-  right_on b last begun r same = record {
+  pub right_on : (b : Build) (last x : ℕ) → RightIs p b last x → (b.right ≡ 1 → p' ≡ p) → RightIs p' b last x
+  right_on b last x r same = record {
     bit = r.bit;
     current = λ h l. let e = same h in let c = r.current h l in omega arith;
     has = r.has;
@@ -96,14 +89,14 @@ module _ (f : File) (k : Opening) (p p' : ℕ) (name name' : ℕ → ℕ) (a a' 
     settled = λ n h e. r.settled n h (on.born n e);
   }
 
-  pub shown_shut : (m : Met) (n : ℕ) → MetIs k a m → AllShown f m n → (g : ℕ) → g < f.stages → Holds f g n → 0 < a.shuts g
+  pub shown_shut : (m : Met) (n : ℕ) → MetIs a m → AllShown f m n → (g : ℕ) → g < f.stages → Holds f g n → 0 < a (closed g)
   shown_shut m n r all g l h = let s = all g l h in ⊎_elim (λ z. r (closed g) z) (λ z. r (already g) z) (either_way (times g m.closed) (times g m.already) s)
     where
       either_way : (x y : ℕ) → 0 < x + y → (0 < x) ⊎ (0 < y)
       either_way ℕ.zero y h = inr (omega arith)
       either_way (ℕ.suc x) y h = inl (omega arith)
 
-  pub inside_on : (i : Inside) (hold work last : ℕ) (b : Build) (m : Met) → InsideIs f name i hold work last b m → MetIs k a m → Onward name name'
+  pub inside_on : (i : Inside) (hold work last : ℕ) (b : Build) (m : Met) → InsideIs f name i hold work last b m → MetIs a m → Onward name name'
       → Ends f a name name' → InsideIs f name' i hold work last b m
   inside_on i hold work last b m r met on ends = record {
     getting = r.getting;
@@ -121,36 +114,35 @@ module _ (f : File) (k : Opening) (p p' : ℕ) (name name' : ℕ → ℕ) (a a' 
   }
 
   -- a ground stays, where sums grow and the Met's own begins and pins grow with them
-  pub ground_on : (m m' : Met) (x : Answer) → Grows a a' → m'.begun + a.begun ≤ m.begun + a'.begun
-      → ((g : ℕ) → times g m'.opened + a.opened g ≤ times g m.opened + a'.opened g) → Ground k a m x → Ground k a' m' x
-  ground_on m m' (number n) g b o h = let q = g.heard n in omega arith
+  pub ground_on : (m m' : Met) (x : Answer) → Grows a a' → m'.begun + a begun ≤ m.begun + a' begun
+      → ((g : ℕ) → times g m'.opened + a (opened g) ≤ times g m.opened + a' (opened g)) → Ground a m x → Ground a' m' x
   ground_on m m' refused g b o h = omega arith
-  ground_on m m' (missed n) g b o h = let q = g.shuts n in omega arith
-  ground_on m m' (closed n) g b o h = let q = g.shuts n in omega arith
-  ground_on m m' (already n) g b o h = let q = g.shuts n in omega arith
   ground_on m m' (pinned n c d) g b o h = λ l. let q = o n in let t = h l in omega arith
-  ground_on m m' (unborn n) g b o h = h
-  ground_on m m' (here n) g b o h = let q = g.raised n in omega arith
-  ground_on m m' (lost n l) g b o h = let q = g.lost_by n l in omega arith
-  ground_on m m' (not_lost n) g b o h = let q = g.sunk n in omega arith
-  ground_on m m' (not_dropped n) g b o h = let q = g.hidden n in omega arith
-  ground_on m m' x g b o h = tt
+  ground_on m m' (missed n) g b o h = let q = g (closed n) in omega arith
+  ground_on m m' (already n) g b o h = let q = g (closed n) in omega arith
+  ground_on m m' begun g b o h = tt
+  ground_on m m' (opened n) g b o h = tt
+  ground_on m m' (put n) g b o h = tt
+  ground_on m m' (restored n) g b o h = tt
+  ground_on m m' (made_lost n l) g b o h = tt
+  ground_on m m' (dropped n) g b o h = tt
+  ground_on m m' x g b o h = let q = g x in omega arith
 
-  pub met_on : (m : Met) → MetIs k a m → Grows a a' → MetIs k a' m
-  met_on m r g x h = ground_on m m x g (let b = g.begun in omega arith) (λ n. let b = g.opened n in omega arith) (r x h)
+  pub met_on : (m : Met) → MetIs a m → Grows a a' → MetIs a' m
+  met_on m r g x h = ground_on m m x g (let b = g begun in omega arith) (λ n. let b = g (opened n) in omega arith) (r x h)
 
   -- a Met with one more answer
-  pub met_enters : (x : Answer) (m : Met) → MetIs k a m → Grows a a' → (enter x m).begun + a.begun ≤ m.begun + a'.begun
-      → ((g : ℕ) → times g (enter x m).opened + a.opened g ≤ times g m.opened + a'.opened g) → Ground k a' (enter x m) x → MetIs k a' (enter x m)
-  met_enters x m r g b o new y h = often_from x y m (Ground k a' (enter x m) y) (λ e. subst (Ground k a' (enter x m)) e new)
+  pub met_enters : (x : Answer) (m : Met) → MetIs a m → Grows a a' → (enter x m).begun + a begun ≤ m.begun + a' begun
+      → ((g : ℕ) → times g (enter x m).opened + a (opened g) ≤ times g m.opened + a' (opened g)) → Ground a' (enter x m) x → MetIs a' (enter x m)
+  met_enters x m r g b o new y h = often_from x y m (Ground a' (enter x m) y) (λ e. subst (Ground a' (enter x m)) e new)
       (λ q. ground_on m (enter x m) y g b o (r y q)) h
 
   -- what an answer shows is so
   abbrev pub Shown : Answer → Type 0
-  Shown (number n) = (n ≤ p') × (0 < a'.heard n)
-  Shown (missed g) = 0 < a'.shuts g
-  Shown (closed g) = 0 < a'.shuts g
-  Shown (already g) = 0 < a'.shuts g
+  Shown (number n) = (n ≤ p') × (0 < a' (number n))
+  Shown (missed g) = 0 < a' (closed g)
+  Shown (closed g) = 0 < a' (closed g)
+  Shown (already g) = 0 < a' (closed g)
   Shown (here n) = name' n ≢ 0
   Shown (lost n l) = name' n ≢ 0
   Shown (put n) = name' n ≢ 0
@@ -158,13 +150,13 @@ module _ (f : File) (k : Opening) (p p' : ℕ) (name name' : ℕ → ℕ) (a a' 
   Shown (dropped n) = name' n ≡ 3
   Shown x = Unit {0}
 
-  more_shut : (g : ℕ) (s : Seen) → SeenIs p' name' a' s → 0 < a'.shuts g → SeenIs p' name' a' (record s { shut = g ∷ s.shut })
+  more_shut : (g : ℕ) (s : Seen) → SeenIs p' name' a' s → 0 < a' (closed g) → SeenIs p' name' a' (record s { shut = g ∷ s.shut })
   more_shut g s r h = record {
     low = r.low;
     heard = r.heard;
     born = r.born;
     dropped = r.dropped;
-    shut = λ m l. times_cons m g s.shut (0 < a'.shuts m) (λ e. subst (λ z. 0 < a'.shuts z) (sym e) h) (r.shut m) l;
+    shut = λ m l. times_cons m g s.shut (0 < a' (closed m)) (λ e. subst (λ z. 0 < a' (closed z)) (sym e) h) (r.shut m) l;
   }
 
   more_born : (n : ℕ) (s : Seen) → SeenIs p' name' a' s → name' n ≢ 0 → SeenIs p' name' a' (record s { born = n ∷ s.born })
@@ -198,16 +190,16 @@ module _ (f : File) (k : Opening) (p p' : ℕ) (name name' : ℕ → ℕ) (a a' 
   -- what a tale tells has its ground, and is so
   abbrev pub Says : Tale → Met → Type 0
   Says silence m = Unit {0}
-  Says (reply x) m = Ground k a' (enter x m) x × Shown x
+  Says (reply x) m = Ground a' (enter x m) x × Shown x
   Says (news n) m = Shown (number n)
 
   -- what is known of an actor of its Met and Seen, after a tale
   abbrev pub KnownIs : Known → Type 0
-  KnownIs q = SeenIs p' name' a' q.seen × MetIs k a' q.own × ((i : ℕ) (m : Met) → get_elem? q.gone i ≡ some m → MetIs k a' m)
+  KnownIs q = SeenIs p' name' a' q.seen × MetIs a' q.own × ((i : ℕ) (m : Met) → get_elem? q.gone i ≡ some m → MetIs a' m)
 
-  pub told_is : (t : Tale) (v : View) → SeenIs p name a v.seen → MetIs k a v.own → ((i : ℕ) (m : Met) → get_elem? v.gone i ≡ some m → MetIs k a m)
-      → p ≤ p' → Grows a a' → Onward name name' → (tell t (known v)).own.begun + a.begun ≤ v.own.begun + a'.begun
-      → ((g : ℕ) → times g (tell t (known v)).own.opened + a.opened g ≤ times g v.own.opened + a'.opened g) → Says t v.own → KnownIs (tell t (known v))
+  pub told_is : (t : Tale) (v : View) → SeenIs p name a v.seen → MetIs a v.own → ((i : ℕ) (m : Met) → get_elem? v.gone i ≡ some m → MetIs a m)
+      → p ≤ p' → Grows a a' → Onward name name' → (tell t (known v)).own.begun + a begun ≤ v.own.begun + a' begun
+      → ((g : ℕ) → times g (tell t (known v)).own.opened + a (opened g) ≤ times g v.own.opened + a' (opened g)) → Says t v.own → KnownIs (tell t (known v))
   told_is silence v seen own gone up g on b o says = (seen_on v.seen seen up g on, met_on v.own own g, λ i m e. met_on m (gone i m e) g)
   told_is (reply x) v seen own gone up g on b o says =
       (seen_shows x v.seen (seen_on v.seen seen up g on) says.1, met_enters x v.own own g b o says.0, λ i m e. met_on m (gone i m e) g)

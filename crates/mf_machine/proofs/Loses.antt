@@ -62,7 +62,7 @@ module _ (f : File) (k : Opening) (s : State) (id : ℕ) (v : View) (r : Ruled f
       let none : bit 0 (n + 1) ≡ 0 = bit_not 0 (n + 1) (λ e. omega arith) in let more = losses_here n l v.made.changes.lost in
       let there = total_at (in_lose n) s.views id v at in let by_line = lines_here n l v.made.changes.lost in
       let taken : s.name n ≡ 2 = (let t = (ws.names n inside).taken in bit_eq (s.name n) 2 (omega arith)) in
-      let by : 0 < (tally k (set s.views id w)).lost_by n l = (let a = total_set (loses_by n l) s.views id v w at in let b = total_at (loses_by n l) s.views id v at in omega arith) in
+      let by : 0 < tally k (set s.views id w) (answer.lost n l) = (let a = total_set (loses_by n l) s.views id v w at in let b = total_at (loses_by n l) s.views id v at in omega arith) in
       renamed f k s id v w s' n (reply (answer.made_lost n l)) refl r at refl but (omega arith, omega arith) (λ z. omega arith)
       (λ m ne. record {
         counts = λ j. record (parts m v) { in_lose = back_else m n v.inside.losing ne has_it j; loses = losses_else m n l v.made.changes.lost ne j };

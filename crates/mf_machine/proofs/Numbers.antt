@@ -4,6 +4,7 @@ use mathlib.Core.Logic.{dite}
 use mathlib.Core.Option.{some}
 use native.Mathlib.Decide.{ℕ_discrete}
 use lib.ListN.{get_elem?}
+use Rattle.mf_machine.specs.Answers as answer
 use Rattle.mf_machine.specs.declared.view.View.{View}
 use Rattle.mf_machine.specs.Actors.{Active, Idle}
 use Rattle.mf_machine.specs.Answers.{number}
@@ -29,7 +30,7 @@ module _ (f : File) (k : Opening) (s : State) (id i : ℕ) (v : View) (r : Ruled
   pub looks : Ruled f k (record s { views = set s.views id (counted i s.number (looked s.number v)) })
   looks = let w : View = counted i s.number (looked s.number v) in let mine = r.each id v at in let ws = r.words in
       calm f k s id v w (reply (number s.number)) refl r at refl (λ n. part_same n v w refl refl)
-      (λ add g. let a = ws.number.heard in let b = g.heard s.number in (omega arith, (omega arith, omega arith)))
+      (λ add g. let a = ws.number.heard in let b = g (answer.number s.number) in (omega arith, (omega arith, omega arith)))
       (λ g. record {
         active = active;
         strays = mine.strays;
@@ -64,7 +65,7 @@ module _ (f : File) (k : Opening) (s : State) (id i : ℕ) (v : View) (r : Ruled
         number = record {
           top = omega arith;
           floor = let a = ws.number.floor in omega arith;
-          heard = subst (λ z. 0 < (tally k vs').heard z) (sym ep) (let a = heard in omega arith);
+          heard = subst (λ z. 0 < tally k vs' (answer.number z)) (sym ep) (let a = heard in omega arith);
           once = λ n h. dite (ℕ_discrete n x) (λ e. (
             ap (λ z. total (publishings z) vs') e ∙ heard,
             let a = ws.number.floor in omega arith,

@@ -46,11 +46,11 @@ few_pins f k s g r = let a = total_le (pins g) triple s.views (λ j v e. small v
 
 -- what a word of pins says: below 2^63 the generation is open, and the word is the number of its pins
 pub open_word : (f : File) (k : Opening) (s : State) (g : ℕ) → Ruled f k s → g < f.stages → s.pins g < 9223372036854775808
-    → ((tally k s.views).shuts g ≡ 0) × (s.pins g ≡ total (pins g) s.views)
+    → (tally k s.views (answer.closed g) ≡ 0) × (s.pins g ≡ total (pins g) s.views)
 open_word f k s g r l h = let is = (r.words.pins g l).word in let one = (r.words.pins g l).once in (omega arith, omega arith)
 
 pub shut_word : (f : File) (k : Opening) (s : State) (g : ℕ) → Ruled f k s → g < f.stages → 9223372036854775808 ≤ s.pins g
-    → (tally k s.views).shuts g ≡ 1
+    → tally k s.views (answer.closed g) ≡ 1
 shut_word f k s g r l h = let is = (r.words.pins g l).word in let one = (r.words.pins g l).once in let few = few_pins f k s g r in omega arith
 
 module _ (f : File) (k : Opening) (s : State) (id i : ℕ) (v : View) (r : Ruled f k s) (at : get_elem? s.views id ≡ some v) (active : Active v)
@@ -75,7 +75,7 @@ module _ (f : File) (k : Opening) (s : State) (id i : ℕ) (v : View) (r : Ruled
         but.right ∙ (ws.right ∙ sym (total_same right_of s.views id v w at refl)),
         let o = ws.one in let er = but.right in omega arith,
         (λ h l. dite (ℕ_discrete h g)
-            (λ e. subst (λ z. PinsAre s'.number z (s'.pins z) ((tally k vs').shuts z) (total (live z) vs') (total (pins z) vs')) (sym e)
+            (λ e. subst (λ z. PinsAre s'.number z (s'.pins z) (tally k vs' (answer.closed z)) (total (live z) vs') (total (pins z) vs')) (sym e)
             record {
               word = let d = total_set (pins g) s.views id v w at in let q = slots g in let b = bit_is (g + 1) (g + 1) refl in let a = word.1 in omega arith;
               once = omega arith;
@@ -116,7 +116,7 @@ module _ (f : File) (k : Opening) (s : State) (id i : ℕ) (v : View) (r : Ruled
         but.right ∙ (ws.right ∙ sym (total_same right_of s.views id v w at refl)),
         let o = ws.one in let er = but.right in omega arith,
         (λ h l. dite (ℕ_discrete h g)
-            (λ e. subst (λ z. PinsAre s'.number z (s'.pins z) ((tally k vs').shuts z) (total (live z) vs') (total (pins z) vs')) (sym e)
+            (λ e. subst (λ z. PinsAre s'.number z (s'.pins z) (tally k vs' (answer.closed z)) (total (live z) vs') (total (pins z) vs')) (sym e)
             record {
               word = let d = total_set (pins g) s.views id v w at in let b = times_here g v.strays in let a = (ws.pins g below).word in omega arith;
               once = let a = (ws.pins g below).once in omega arith;
@@ -124,7 +124,7 @@ module _ (f : File) (k : Opening) (s : State) (id i : ℕ) (v : View) (r : Ruled
             })
             (λ ne. pins_same f k s.views id v w at s.number s'.number h (s.pins h) (s'.pins h) (ws.pins h l) (omega arith)
             (there h ne) refl (times_else h g v.strays ne) refl)),
-        (let q = up.shuts g in (omega arith, omega arith)),
+        (let q = up (answer.closed g) in (omega arith, omega arith)),
       ))
       (λ old. record {
         active = active;
@@ -148,14 +148,14 @@ module _ (f : File) (k : Opening) (s : State) (id i : ℕ) (v : View) (r : Ruled
       let w : View = counted i y (record v { hold = hold; work = work }) in let vs' : List View = set s.views id w in
       let mine = r.each id v at in let ws = r.words in let c = total_same (closings g) s.views id v w at refl in
       let idle : Idle v = omega arith in let b = bit_is (g + 1) (g + 1) refl in let one = slots g in let alive = total_at (live g) s.views id v at in
-      let open_now : (tally k s.views).shuts g ≡ 0 = dite (ℕ_discrete ((tally k s.views).shuts g) 0) (λ e. e)
+      let open_now : tally k s.views (answer.closed g) ≡ 0 = dite (ℕ_discrete (tally k s.views (answer.closed g)) 0) (λ e. e)
       (λ ne. let a = ((ws.pins g below).low (omega arith)).1 in absurd (omega arith)) in
       gated f k s id v w s' silence refl r at ep but.names but.homes refl refl refl refl
       (λ up. (
         but.right ∙ (ws.right ∙ sym (total_same right_of s.views id v w at refl)),
         let o = ws.one in let er = but.right in omega arith,
         (λ h l. dite (ℕ_discrete h g)
-            (λ e. subst (λ z. PinsAre s'.number z (s'.pins z) ((tally k vs').shuts z) (total (live z) vs') (total (pins z) vs')) (sym e)
+            (λ e. subst (λ z. PinsAre s'.number z (s'.pins z) (tally k vs' (answer.closed z)) (total (live z) vs') (total (pins z) vs')) (sym e)
             record {
               word = let d = total_set (pins g) s.views id v w at in let a = (ws.pins g below).word in omega arith;
               once = omega arith;
@@ -184,13 +184,13 @@ module _ (f : File) (k : Opening) (s : State) (id i : ℕ) (v : View) (r : Ruled
       let word = open_word f k s g r below (omega arith) in let open_now = word.0 in let zero_pins = word.1 in let seen_low = mine.seen.low in
       let c = total_set (closings g) s.views id v w at in let z = times_here g v.made.closings in
       let all = total_same (pins g) s.views id v w at refl in let alive = total_same (live g) s.views id v w at refl in
-      let under = total_le (live g) (pins g) s.views (λ j u e. omega arith) in let now : (tally k vs').shuts g ≡ 1 = omega arith in
+      let under = total_le (live g) (pins g) s.views (λ j u e. omega arith) in let now : tally k vs' (answer.closed g) ≡ 1 = omega arith in
       gated f k s id v w s' (reply (answer.closed g)) refl r at ep but.names but.homes refl refl refl refl
       (λ up. (
         but.right ∙ (ws.right ∙ sym (total_same right_of s.views id v w at refl)),
         let o = ws.one in let er = but.right in omega arith,
         (λ h l. dite (ℕ_discrete h g)
-            (λ e. subst (λ z. PinsAre s'.number z (s'.pins z) ((tally k vs').shuts z) (total (live z) vs') (total (pins z) vs')) (sym e)
+            (λ e. subst (λ z. PinsAre s'.number z (s'.pins z) (tally k vs' (answer.closed z)) (total (live z) vs') (total (pins z) vs')) (sym e)
             record { word = omega arith; once = omega arith; low = λ _. (omega arith, omega arith) })
             (λ ne. pins_same f k s.views id v w at s.number s'.number h (s.pins h) (s'.pins h) (ws.pins h l) (omega arith)
             (there h ne) refl refl (times_else h g v.made.closings ne))),
@@ -212,7 +212,7 @@ module _ (f : File) (k : Opening) (s : State) (id i : ℕ) (v : View) (r : Ruled
   pub closes_already : 9223372036854775808 ≤ s.pins g → Ruled f k (record s { views = set s.views id (counted i (s.pins g) (closed_already g v)) })
   closes_already shut_now = let w : View = counted i (s.pins g) (closed_already g v) in let mine = r.each id v at in
       let shut = shut_word f k s g r below shut_now in
-      calm f k s id v w (reply (answer.already g)) refl r at refl (λ n. part_same n v w refl refl) (λ add up. let c = up.shuts g in (omega arith, omega arith))
+      calm f k s id v w (reply (answer.already g)) refl r at refl (λ n. part_same n v w refl refl) (λ add up. let c = up (answer.closed g) in (omega arith, omega arith))
       (λ up. record {
         active = active;
         strays = λ h l. let t = mine.strays h l in (let a = t.0 in let b = times_more h g v.seen.shut in omega arith, t.1);
@@ -230,11 +230,11 @@ module _ (f : File) (k : Opening) (s : State) (id i : ℕ) (v : View) (r : Ruled
       let unshut : (j : ℕ) (u : View) → get_elem? s.views j ≡ some u → stray g u ≡ 0 = λ j u e. dite (ℕ_discrete (stray g u) 0) (λ z. z)
       (λ ne. let a = ((r.each j u e).strays g (omega arith)).0 in let b = (r.each j u e).seen.shut g a in absurd (omega arith)) in
       let all = total_le (pins g) (live g) s.views (λ j u e. let z = unshut j u e in omega arith) in
-      let cause : live g v < s.pins g → times g v.own.opened < (tally k s.views).opened g = λ l. let is = word.1 in
+      let cause : live g v < s.pins g → times g v.own.opened < tally k s.views (answer.opened g) = λ l. let is = word.1 in
       let o = total_other (live g) s.views id v at (omega arith) in let t = ((r.each o.0 o.1 o.3).pins g o.4).2 in
       let two = total_two (opened_of g) s.views id o.0 v o.1 o.2 at o.3 in omega arith in
       calm f k s id v w (reply (answer.pinned g (s.pins g) (live g v))) refl r at refl (λ n. part_same n v w refl refl)
-      (λ add up. ((λ l. let c = cause l in let b = up.opened g in omega arith), tt))
+      (λ add up. ((λ l. let c = cause l in let b = up (answer.opened g) in omega arith), tt))
       (λ up. record {
         active = active;
         strays = mine.strays;

@@ -25,18 +25,18 @@ use Rattle.mf_machine.proofs.Words.{onward_at, ends_at, outside_of, turn_else, b
 
 -- a generation that a pin is on, or the next one, isn't closed
 pub pin_open : (f : File) (k : Opening) (s : State) (id g : ℕ) (v : View) → Ruled f k s → get_elem? s.views id ≡ some v → g < f.stages → 0 < live g v
-    → (tally k s.views).shuts g ≡ 0
-pin_open f k s id g v r at l alive = dite (ℕ_discrete ((tally k s.views).shuts g) 0) (λ e. e) (λ ne. let t = (r.words.pins g l).low (omega arith) in
+    → tally k s.views (answer.closed g) ≡ 0
+pin_open f k s id g v r at l alive = dite (ℕ_discrete (tally k s.views (answer.closed g)) 0) (λ e. e) (λ ne. let t = (r.words.pins g l).low (omega arith) in
     let z = t.1 in let a = total_at (live g) s.views id v at in absurd (omega arith))
 
 pub next_open : (f : File) (k : Opening) (s : State) (id g : ℕ) (v : View) → Ruled f k s → get_elem? s.views id ≡ some v → IsNext f v.build v.last g
-    → (tally k s.views).shuts g ≡ 0
-next_open f k s id g v r at next = dite (ℕ_discrete ((tally k s.views).shuts g) 0) (λ e. e)
+    → tally k s.views (answer.closed g) ≡ 0
+next_open f k s id g v r at next = dite (ℕ_discrete (tally k s.views (answer.closed g)) 0) (λ e. e)
     (λ ne. let t = (r.words.pins g next.3).low (omega arith) in let z = t.0 in let c = (r.each id v at).right.current next.0 next.1 in
     let d = next.2 in absurd (omega arith))
 
 pub work_open : (f : File) (k : Opening) (s : State) (id n : ℕ) (v : View) → Ruled f k s → get_elem? s.views id ≡ some v
-    → WorkHolds f v.build v.last v.work n → (g : ℕ) × (g < f.stages) × Holds f g n × ((tally k s.views).shuts g ≡ 0)
+    → WorkHolds f v.build v.last v.work n → (g : ℕ) × (g < f.stages) × Holds f g n × (tally k s.views (answer.closed g) ≡ 0)
 work_open f k s id n v r at work = ⊎_elim
     (λ t. let e = t.2 in let b = bit_is v.work (t.0 + 1) e in (t.0, t.1, t.3, pin_open f k s id t.0 v r at t.1 (omega arith)))
     (λ t. (t.0, t.1.3, t.2, next_open f k s id t.0 v r at t.1)) work.1

@@ -67,7 +67,7 @@ module _ (f : File) (k : Opening) (s : State) (id i : ℕ) (v : View) (r : Ruled
       let cause : v.own.begun < total begun_of s.views = (let is = ws.right in let o = total_other right_of s.views id v at (omega arith) in
       let theirs = r.each o.0 o.1 o.3 in let b = theirs.right.bit in let has = theirs.right.has (let c = o.4 in omega arith) in
       let two = total_two begun_of s.views id o.0 v o.1 o.2 at o.3 in omega arith) in
-      calm f k s id v w (reply answer.refused) refl r at refl (λ n. part_same n v w refl refl) (λ add g. (let b = g.begun in omega arith, tt))
+      calm f k s id v w (reply answer.refused) refl r at refl (λ n. part_same n v w refl refl) (λ add g. (let b = g answer.begun in omega arith, tt))
       (λ g. record {
         active = active;
         strays = mine.strays;

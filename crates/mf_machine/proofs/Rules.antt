@@ -13,10 +13,10 @@ use Rattle.mf_machine.specs.Kept.{IsActor, IsClosed, HasSeen, HasTaken, IsMetOf,
 use Rattle.mf_machine.specs.Kept.{Dropped, Cells, Accounted, Cause, Kept}
 use Rattle.mf_machine.specs.Rest.{Rest}
 use Rattle.mf_machine.specs.Ruled.{MetIs, Ruled}
-use Rattle.mf_machine.specs.Sums.{publishings, closings, puts, loses, loses_by, restores, drops, in_get, in_birth}
+use Rattle.mf_machine.specs.Sums.{adds, publishings, closings, puts, loses, loses_by, restores, drops, in_get, in_birth}
 use Rattle.mf_machine.specs.Sums.{in_retake, in_lose, in_drop, raises, sinks, hides, lost_bit, Tally, tally}
 use Rattle.mf_machine.proofs.Lists.{bit_is, bit_not, bit_eq, bit_le, truth_is, truth_true}
-use Rattle.mf_machine.proofs.Totals.{total_at, total_two, total_some}
+use Rattle.mf_machine.proofs.Totals.{total_none, total_at, total_two, total_some}
 use Rattle.mf_machine.proofs.Frames.{shown_shut}
 use Rattle.mf_machine.proofs.Pins.{shut_word}
 use Rattle.mf_machine.proofs.Words.{bits_low, bits_lost, raises_parts, sinks_parts, hides_parts, lost_not}
@@ -59,24 +59,24 @@ module _ (f : File) (k : Opening) (s : State) (rest : Rest f k) (r : Ruled f k s
   abbrev A : Tally
   A = tally k s.views
 
-  pub closed_from : (g : ℕ) → g < f.stages → 0 < A.shuts g → IsClosed s g
+  pub closed_from : (g : ℕ) → g < f.stages → 0 < A (answer.closed g) → IsClosed s g
   closed_from g l h = let t = r.words.pins g l in let a = t.word in let b = t.once in omega arith
 
-  pub closed_to : (g : ℕ) → g < f.stages → IsClosed s g → 0 < A.shuts g
+  pub closed_to : (g : ℕ) → g < f.stages → IsClosed s g → 0 < A (answer.closed g)
   closed_to g l h = let a = shut_word f k s g r l h in omega arith
 
   -- a number heard is at most the present one
-  heard_low : (m : ℕ) → 0 < A.heard m → m ≤ s.number
+  heard_low : (m : ℕ) → 0 < A (answer.number m) → m ≤ s.number
   heard_low m h = ⊎_elim (λ a. let e = bit_eq k.number m a in let b = r.words.number.floor in omega arith) (λ a. (r.words.number.once m a).2)
       (either (bit k.number m) (total (publishings m) s.views) h)
 
   -- what is known of each Met of an actor
-  met_is : (j : ℕ) (v : View) → IsActor s j v → (m : Met) → IsMetOf v m → MetIs k A m
-  met_is j v at m is = ⊎_elim (λ e. subst (MetIs k A) (sym e) (r.each j v at).own) (λ t. (r.each j v at).gone t.0 m t.1) is
+  met_is : (j : ℕ) (v : View) → IsActor s j v → (m : Met) → IsMetOf v m → MetIs A m
+  met_is j v at m is = ⊎_elim (λ e. subst (MetIs A) (sym e) (r.each j v at).own) (λ t. (r.each j v at).gone t.0 m t.1) is
 
   -- a number that an actor has seen was heard
-  seen_heard : (j : ℕ) (v : View) → IsActor s j v → (m : ℕ) → 0 < m → HasSeen v m → 0 < A.heard m
-  seen_heard j v at m some_m saw = let mine = r.each j v at in ⊎_elim (λ e. subst (λ z. 0 < A.heard z) (sym e) (mine.seen.heard (omega arith)))
+  seen_heard : (j : ℕ) (v : View) → IsActor s j v → (m : ℕ) → 0 < m → HasSeen v m → 0 < A (answer.number m)
+  seen_heard j v at m some_m saw = let mine = r.each j v at in ⊎_elim (λ e. subst (λ z. 0 < A (answer.number z)) (sym e) (mine.seen.heard (omega arith)))
       (λ t. met_is j v at t.0 t.1 (answer.number m) t.2) saw
 
   pub number : Number f s
@@ -101,7 +101,7 @@ module _ (f : File) (k : Opening) (s : State) (rest : Rest f k) (r : Ruled f k s
 
   pub born : Born f s
   born = record {
-    published = λ g l e. r.words.born g l (subst (λ z. 0 < A.heard z) e r.words.number.heard);
+    published = λ g l e. r.words.born g l (subst (λ z. 0 < A (answer.number z)) e r.words.number.heard);
     seen = λ j v at g l saw. r.words.born g l (seen_heard j v at (g + 1) (omega arith) saw);
   }
 
@@ -203,11 +203,11 @@ module _ (f : File) (k : Opening) (s : State) (rest : Rest f k) (r : Ruled f k s
         ((r.words.names n b).line l e).0);
   }
 
-  pub causes : (m : Met) → MetIs k A m → (x : Answer) → 0 < often x m → Cause k s m x
+  pub causes : (m : Met) → MetIs A m → (x : Answer) → 0 < often x m → Cause k s m x
   causes m q (answer.number n) h = ⊎_elim (λ a. inl (sym (bit_eq k.number n a))) (λ a. inr a) (either (bit k.number n) (total (publishings n) s.views) (q (answer.number n) h))
   causes m q (answer.missed g) h = ⊎_elim (λ a. inl (truth_true (k.closed g) a)) (λ a. inr a) (either (truth (k.closed g)) (total (closings g) s.views) (q (answer.missed g) h))
   causes m q (answer.already g) h = ⊎_elim (λ a. inl (truth_true (k.closed g) a)) (λ a. inr a) (either (truth (k.closed g)) (total (closings g) s.views) (q (answer.already g) h))
-  causes m q (answer.unborn n) h = q (answer.unborn n) h
+  causes m q (answer.unborn n) h = let c = q (answer.unborn n) h in let z = total_none (adds (answer.unborn n)) s.views (λ v. refl) in bit_eq (k.name n) 0 (omega arith)
   causes m q (answer.lost n l) h = ⊎_elim (λ a. inl (bit_eq (k.name n) (4 + l) a)) (λ a. inr a) (either (bit (k.name n) (4 + l)) (total (loses_by n l) s.views) (q (answer.lost n l) h))
   causes m q (answer.here n) h = let p = raises_parts n s.views in ⊎_elim (λ a. inl (bit_eq (k.name n) 1 a))
       (λ a. inr (⊎_elim (λ a. ⊎_elim (λ a. ⊎_elim (λ a. inl a) (λ a. inr (inl a)) (either (total (puts n) s.views) (total (restores n) s.views) a))
@@ -227,8 +227,8 @@ module _ (f : File) (k : Opening) (s : State) (rest : Rest f k) (r : Ruled f k s
       (total (in_lose n) s.views) a)) (λ a. inr (inr (inr a)))
       (either (total (loses n) s.views + total (drops n) s.views + total (in_lose n) s.views) (total (in_drop n) s.views) (omega arith)))))
       (either (bit (k.name n) 0 + bit (k.name n) 3) (total (hides n) s.views) c)
-  causes m q answer.refused h = q answer.refused h
-  causes m q (answer.pinned g p o) h = q (answer.pinned g p o) h
+  causes m q answer.refused h = let c = q answer.refused h in omega arith
+  causes m q (answer.pinned g p o) h = λ l. let c = q (answer.pinned g p o) h l in omega arith
   causes m q x h = tt
 
   pub kept : Kept f k s

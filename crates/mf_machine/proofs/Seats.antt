@@ -8,19 +8,21 @@ use Rattle.mf_machine.specs.declared.view.Met.{Met}
 use Rattle.mf_machine.specs.declared.view.Seen.{Seen}
 use Rattle.mf_machine.specs.declared.view.View.{View}
 use Rattle.mf_machine.specs.Actors.{Active, Free, live}
-use Rattle.mf_machine.specs.Answers.{Answer, begun, often}
+use Rattle.mf_machine.specs.Answers as answer
+use Rattle.mf_machine.specs.Answers.{Answer, often}
 use Rattle.mf_machine.specs.Counts.{bit, times, total, beyond}
 use Rattle.mf_machine.specs.File.{File, Opening, State}
 use Rattle.mf_machine.specs.Ruled.{SeenIs, MetIs, Words, Sits, SitsIn, Ruled}
 use Rattle.mf_machine.specs.Steps.{kept_share, old_half, new_half, joined}
-use Rattle.mf_machine.specs.Sums.{right_of, share_of, stray, pins, publishings, closings, puts, loses, loses_by}
-use Rattle.mf_machine.specs.Sums.{restores, drops, in_get, in_birth, in_retake, in_lose, in_drop, begun_of, opened_of}
-use Rattle.mf_machine.specs.Sums.{raises, sinks, hides, Tally, tally}
+use Rattle.mf_machine.specs.Sums.{adds, right_of, share_of, stray, pins, puts, loses}
+use Rattle.mf_machine.specs.Sums.{restores, drops, in_get, in_birth, in_retake, in_lose, in_drop}
+use Rattle.mf_machine.specs.Sums.{Tally, tally}
 use Rattle.mf_machine.specs.Worlds.{fresh, spent_view, nothing_met, nothing_seen, outside, nothing_built}
 use Rattle.mf_machine.proofs.Lists.{at_set, at_snoc, at_append, bit_not, times-append, times_either, losses-append, lines-append, up_to_is, beyond_is}
 use Rattle.mf_machine.proofs.Totals.{total_set, total_snoc, all_begun-append, all_opened-append}
 use Rattle.mf_machine.proofs.Frames.{Grows, onward_same, builds_same, ends_same, idle_inside, sits_on}
 use Rattle.mf_machine.proofs.Steps.{pins_eq}
+use Rattle.mf_machine.proofs.Words.{outside_of}
 
 -- no sum changes
 pub record Equal (vs vs' : List View) : Type 0 where
@@ -28,8 +30,6 @@ pub record Equal (vs vs' : List View) : Type 0 where
   pub share : total share_of vs' ≡ total share_of vs
   pub alive : (g : ℕ) → total (live g) vs' ≡ total (live g) vs
   pub pins : (g : ℕ) → total (pins g) vs' ≡ total (pins g) vs
-  pub publishings : (g : ℕ) → total (publishings g) vs' ≡ total (publishings g) vs
-  pub closings : (g : ℕ) → total (closings g) vs' ≡ total (closings g) vs
   pub in_get : (g : ℕ) → total (in_get g) vs' ≡ total (in_get g) vs
   pub in_birth : (g : ℕ) → total (in_birth g) vs' ≡ total (in_birth g) vs
   pub in_retake : (g : ℕ) → total (in_retake g) vs' ≡ total (in_retake g) vs
@@ -37,28 +37,23 @@ pub record Equal (vs vs' : List View) : Type 0 where
   pub in_drop : (g : ℕ) → total (in_drop g) vs' ≡ total (in_drop g) vs
   pub puts : (g : ℕ) → total (puts g) vs' ≡ total (puts g) vs
   pub loses : (g : ℕ) → total (loses g) vs' ≡ total (loses g) vs
-  pub loses_by : (g : ℕ) → (l : ℕ) → total (loses_by g l) vs' ≡ total (loses_by g l) vs
   pub restores : (g : ℕ) → total (restores g) vs' ≡ total (restores g) vs
   pub drops : (g : ℕ) → total (drops g) vs' ≡ total (drops g) vs
-  pub raises : (g : ℕ) → total (raises g) vs' ≡ total (raises g) vs
-  pub sinks : (g : ℕ) → total (sinks g) vs' ≡ total (sinks g) vs
-  pub hides : (g : ℕ) → total (hides g) vs' ≡ total (hides g) vs
-  pub begun : total begun_of vs' ≡ total begun_of vs
-  pub opened : (g : ℕ) → total (opened_of g) vs' ≡ total (opened_of g) vs
+  pub adds : (x : Answer) → total (adds x) vs' ≡ total (adds x) vs
 
 pub words_equal : (f : File) (k : Opening) (s : State) (vs' : List View) → Equal s.views vs' → Words f k s → Words f k (record s { views = vs' })
 words_equal f k s vs' q r = record {
   number = record {
     top = r.number.top;
     floor = r.number.floor;
-    heard = let a = r.number.heard in let b = q.publishings s.number in omega arith;
-    once = λ m h. let b = q.publishings m in let t = r.number.once m (omega arith) in (b ∙ t.0, t.1, t.2);
+    heard = let a = r.number.heard in let b = q.adds (answer.number s.number) in omega arith;
+    once = λ m h. let b = q.adds (answer.number m) in let t = r.number.once m (omega arith) in (b ∙ t.0, t.1, t.2);
   };
   right = r.right ∙ sym q.right;
   one = r.one;
   shares = let a = r.shares in let b = q.share in omega arith;
-  pins = λ g l. pins_eq s.number s.number g (s.pins g) (s.pins g) ((tally k s.views).shuts g) ((tally k vs').shuts g) (total (live g) s.views)
-      (total (live g) vs') (total (pins g) s.views) (total (pins g) vs') (r.pins g l) (omega arith) refl (let b = q.closings g in omega arith)
+  pins = λ g l. pins_eq s.number s.number g (s.pins g) (s.pins g) (tally k s.views (answer.closed g)) (tally k vs' (answer.closed g)) (total (live g) s.views)
+      (total (live g) vs') (total (pins g) s.views) (total (pins g) vs') (r.pins g l) (omega arith) refl (let b = q.adds (answer.closed g) in omega arith)
       (q.alive g) (q.pins g);
   names = λ n l. let old = r.names n l in let c₁ = q.in_get n in let c₂ = q.in_birth n in let c₃ = q.in_retake n in let c₄ = q.in_lose n in
       let c₅ = q.in_drop n in let c₆ = q.puts n in let c₇ = q.loses n in let c₈ = q.restores n in let c₉ = q.drops n in record {
@@ -66,26 +61,17 @@ words_equal f k s vs' q r = record {
         born = let t = old.born in omega arith;
         dropped = let t = old.dropped in omega arith;
         lost = λ ne. let t = old.lost ne in omega arith;
-        line = λ l e. let t = old.line l e in let b = q.loses_by n l in let u = t.0 in (omega arith, t.1);
-        left = λ e g b h. let t = old.left e g b h in let c = q.closings g in omega arith;
+        line = λ l e. let t = old.line l e in let b = q.adds (answer.lost n l) in let u = t.0 in (omega arith, t.1);
+        left = λ e g b h. let t = old.left e g b h in let c = q.adds (answer.closed g) in omega arith;
         here = old.here;
         out = old.out;
         bare = old.bare;
       };
-  born = λ g l h n i e. let b = q.publishings (g + 1) in r.born g l (omega arith) n i e;
+  born = λ g l h n i e. let b = q.adds (answer.number (g + 1)) in r.born g l (omega arith) n i e;
 }
 
 pub grows_equal : (k : Opening) (vs vs' : List View) → Equal vs vs' → Grows (tally k vs) (tally k vs')
-grows_equal k vs vs' q = record {
-  heard = λ n. let t = q.publishings n in omega arith;
-  shuts = λ g. let t = q.closings g in omega arith;
-  lost_by = λ n l. let t = q.loses_by n l in omega arith;
-  raised = λ n. let t = q.raises n in omega arith;
-  sunk = λ n. let t = q.sinks n in omega arith;
-  hidden = λ n. let t = q.hides n in omega arith;
-  begun = let t = q.begun in omega arith;
-  opened = λ g. let t = q.opened g in omega arith;
-}
+grows_equal k vs vs' q x = let t = q.adds x in omega arith
 
 pub sits_equal : (f : File) (k : Opening) (s : State) (vs' : List View) → Equal s.views vs' → (u : View) → SitsIn f k s u
     → SitsIn f k (record s { views = vs' }) u
@@ -93,11 +79,11 @@ sits_equal f k s vs' q u r = sits_on f k s.number s.number s.name s.name (tally 
     (grows_equal k s.views vs' q) (onward_same s.name) (λ _. builds_same s.name) (ends_same f (tally k s.views) s.name)
 
 pub nothing_often : (a : Answer) → often a nothing_met ≡ 0
-nothing_often begun = refl
+nothing_often answer.begun = refl
 nothing_often a = refl
 
-pub met_nothing : (k : Opening) (a : Tally) → MetIs k a nothing_met
-met_nothing k a x h = let z = nothing_often x in absurd (omega arith)
+pub met_nothing : (a : Tally) → MetIs a nothing_met
+met_nothing a x h = let z = nothing_often x in absurd (omega arith)
 
 -- an empty slot has no number
 pub zero_has : (n : ℕ) → bit 0 (n + 1) ≡ 0
@@ -117,7 +103,7 @@ fresh_sits f k p name a share strays seen spent few saw = record {
   build = record { unborn = λ h. absurd (omega arith); lost = λ h. absurd (omega arith); settled = λ n h. absurd (omega arith) };
   pins = λ g h. let z = zero_has g in absurd (omega arith);
   inside = idle_inside f name outside 0 0 0 nothing_built nothing_met refl (λ n e. absurd (omega arith));
-  own = met_nothing k a;
+  own = met_nothing a;
   gone = λ i m e. absurd (some-ne-none m (sym e));
 }
 
@@ -142,9 +128,31 @@ nothing_seen_is f p name a = record {
 }
 
 theirs_too : (f : File) (k : Opening) (p : ℕ) (name : ℕ → ℕ) (a : Tally) (u : View) → Sits f k p name a u → (i : ℕ) (m : Met)
-    → get_elem? (u.own ∷ u.gone) i ≡ some m → MetIs k a m
-theirs_too f k p name a u g zero m e = subst (MetIs k a) (some-injective u.own m e) g.own
+    → get_elem? (u.own ∷ u.gone) i ≡ some m → MetIs a m
+theirs_too f k p name a u g zero m e = subst (MetIs a) (some-injective u.own m e) g.own
 theirs_too f k p name a u g (suc i) m e = g.gone i m e
+
+-- what two halves, and a joined actor, add to the tally
+split_adds : (x : Answer) (v : View) → adds x (old_half v) + adds x (new_half v) ≡ adds x v
+split_adds (answer.here n) v = let z = zero_has n in omega arith
+split_adds (answer.not_dropped n) v = let z = zero_has n in omega arith
+split_adds x v = omega arith
+
+join_adds : (x : Answer) (v u : View) → Free u → adds x (joined v u) + adds x spent_view ≡ adds x v + adds x u
+join_adds (answer.number n) v u free = let a = times-append n v.made.numbers u.made.numbers in omega arith
+join_adds (answer.closed g) v u free = let a = times-append g v.made.closings u.made.closings in omega arith
+join_adds (answer.lost n l) v u free = let a = lines-append n l v.made.changes.lost u.made.changes.lost in omega arith
+join_adds (answer.here n) v u free = let a = times-append n v.made.changes.put u.made.changes.put in
+    let b = times-append n v.made.changes.restored u.made.changes.restored in let z = zero_has n in let o = outside_of n u free in let c = o.1 in
+    let d = o.2 in omega arith
+join_adds (answer.not_lost n) v u free = let a = losses-append n v.made.changes.lost u.made.changes.lost in
+    let b = times-append n v.made.changes.dropped u.made.changes.dropped in omega arith
+join_adds (answer.not_dropped n) v u free = let a = losses-append n v.made.changes.lost u.made.changes.lost in
+    let b = times-append n v.made.changes.dropped u.made.changes.dropped in let z = zero_has n in let o = outside_of n u free in let c = o.3 in
+    let d = o.4 in omega arith
+join_adds answer.begun v u free = let a = all_begun-append v.gone (u.own ∷ u.gone) in omega arith
+join_adds (answer.opened g) v u free = let a = all_opened-append g v.gone (u.own ∷ u.gone) in omega arith
+join_adds x v u free = omega arith
 
 module _ (f : File) (k : Opening) (s : State) (id : ℕ) (v : View) (r : Ruled f k s) (at : get_elem? s.views id ≡ some v) where
   pub splits : 2 ≤ v.share → Ruled f k (record s { views = set s.views id (old_half v) ++ new_half v ∷ [] })
@@ -155,31 +163,18 @@ module _ (f : File) (k : Opening) (s : State) (id : ℕ) (v : View) (r : Ruled f
       let q : Equal vs vs' = record {
         right = cut right_of (omega arith);
         share = cut share_of (omega arith);
-        alive = λ g. cut (live g)
-            (let z = zero_has g in omega arith);
-        pins = λ g. cut (pins g) (let z = zero_has g in
-            let y = beyond_is (kept_share v) g v.strays in omega arith);
-        publishings = λ g. cut (publishings g) (omega arith);
-        closings = λ g. cut (closings g) (omega arith);
+        alive = λ g. cut (live g) (let z = zero_has g in omega arith);
+        pins = λ g. cut (pins g) (let z = zero_has g in let y = beyond_is (kept_share v) g v.strays in omega arith);
         in_get = λ g. cut (in_get g) (let z = zero_has g in omega arith);
         in_birth = λ g. cut (in_birth g) (let z = zero_has g in omega arith);
-        in_retake = λ g. cut (in_retake g)
-            (let z = zero_has g in omega arith);
+        in_retake = λ g. cut (in_retake g) (let z = zero_has g in omega arith);
         in_lose = λ g. cut (in_lose g) (let z = zero_has g in omega arith);
-        in_drop = λ g. cut (in_drop g)
-            (let z = zero_has g in omega arith);
+        in_drop = λ g. cut (in_drop g) (let z = zero_has g in omega arith);
         puts = λ g. cut (puts g) (omega arith);
         loses = λ g. cut (loses g) (omega arith);
-        loses_by = λ g l. cut (loses_by g l) (omega arith);
         restores = λ g. cut (restores g) (omega arith);
-        drops = λ g. cut (drops g)
-            (omega arith);
-        raises = λ g. cut (raises g) (let z = zero_has g in omega arith);
-        sinks = λ g. cut (sinks g) (omega arith);
-        hides = λ g. cut (hides g) (let z = zero_has g in omega arith);
-        begun = cut begun_of (omega arith);
-        opened = λ g. cut (opened_of g)
-            (omega arith);
+        drops = λ g. cut (drops g) (omega arith);
+        adds = λ x. cut (adds x) (split_adds x v);
       } in
       let old = sits_equal f k s vs' q v mine in record {
         words = words_equal f k s vs' q r.words;
@@ -218,53 +213,21 @@ module _ (f : File) (k : Opening) (s : State) (id : ℕ) (v : View) (r : Ruled f
       let q = total_set h vs₁ other u o there in omega arith in
       let h₀ : (g : ℕ) → bit u.hold (g + 1) ≡ 0 = λ g. bit_not u.hold (g + 1) (λ e. omega arith) in
       let w₀ : (g : ℕ) → bit u.work (g + 1) ≡ 0 = λ g. bit_not u.work (g + 1) (λ e. omega arith) in
-      let i₁ : (g : ℕ) → in_get g u ≡ 0 = λ g. bit_not u.inside.getting (g + 1) (λ e. omega arith) in
-      let i₂ : (g : ℕ) → in_birth g u ≡ 0 = λ g. bit_not u.inside.bearing (g + 1) (λ e. omega arith) in
-      let i₃ : (g : ℕ) → in_retake g u ≡ 0 = λ g. bit_not u.inside.retaking (g + 1) (λ e. omega arith) in
-      let i₄ : (g : ℕ) → in_lose g u ≡ 0 = λ g. bit_not u.inside.losing (g + 1) (λ e. omega arith) in
-      let i₅ : (g : ℕ) → in_drop g u ≡ 0 = λ g. bit_not u.inside.dropping (g + 1) (λ e. omega arith) in
-      let put = λ (n : ℕ). times-append n v.made.changes.put u.made.changes.put in
-      let los = λ (n : ℕ). losses-append n v.made.changes.lost u.made.changes.lost in
-      let res = λ (n : ℕ). times-append n v.made.changes.restored u.made.changes.restored in
-      let dro = λ (n : ℕ). times-append n v.made.changes.dropped u.made.changes.dropped in
       let q : Equal vs vs' = record {
         right = both right_of (omega arith);
         share = both share_of (omega arith);
-        alive = λ g. both (live g)
-            (let z = zero_has g in let a = h₀ g in let b = w₀ g in omega arith);
-        pins = λ g. both (pins g) (let z = zero_has g in let a = h₀ g in
-            let b = w₀ g in let c = times-append g v.strays u.strays in omega arith);
-        publishings = λ g. both (publishings g)
-            (let c = times-append g v.made.numbers u.made.numbers in omega arith);
-        closings = λ g. both (closings g)
-            (let c = times-append g v.made.closings u.made.closings in omega arith);
-        in_get = λ g. both (in_get g) (let z = zero_has g in
-            let a = i₁ g in omega arith);
-        in_birth = λ g. both (in_birth g) (let z = zero_has g in
-            let a = i₂ g in omega arith);
-        in_retake = λ g. both (in_retake g) (let z = zero_has g in
-            let a = i₃ g in omega arith);
-        in_lose = λ g. both (in_lose g) (let z = zero_has g in
-            let a = i₄ g in omega arith);
-        in_drop = λ g. both (in_drop g) (let z = zero_has g in
-            let a = i₅ g in omega arith);
-        puts = λ g. both (puts g) (let a = put g in omega arith);
-        loses = λ g. both (loses g)
-            (let a = los g in omega arith);
-        loses_by = λ g l. both (loses_by g l)
-            (let a = lines-append g l v.made.changes.lost u.made.changes.lost in omega arith);
-        restores = λ g. both (restores g)
-            (let a = res g in omega arith);
-        drops = λ g. both (drops g) (let a = dro g in omega arith);
-        raises = λ g. both (raises g)
-            (let z = zero_has g in let a = put g in let b = res g in let c = i₂ g in
-            let d = i₃ g in omega arith);
-        sinks = λ g. both (sinks g) (let a = los g in
-            let b = dro g in omega arith);
-        hides = λ g. both (hides g) (let z = zero_has g in let a = los g in let b = dro g in let c = i₄ g in
-            let d = i₅ g in omega arith);
-        begun = both begun_of (let a = all_begun-append v.gone (u.own ∷ u.gone) in omega arith);
-        opened = λ g. both (opened_of g) (let a = all_opened-append g v.gone (u.own ∷ u.gone) in omega arith);
+        alive = λ g. both (live g) (let z = zero_has g in let a = h₀ g in let b = w₀ g in omega arith);
+        pins = λ g. both (pins g) (let z = zero_has g in let a = h₀ g in let b = w₀ g in let c = times-append g v.strays u.strays in omega arith);
+        in_get = λ g. both (in_get g) (let z = zero_has g in let o = outside_of g u idle in let a = o.0 in omega arith);
+        in_birth = λ g. both (in_birth g) (let z = zero_has g in let o = outside_of g u idle in let a = o.1 in omega arith);
+        in_retake = λ g. both (in_retake g) (let z = zero_has g in let o = outside_of g u idle in let a = o.2 in omega arith);
+        in_lose = λ g. both (in_lose g) (let z = zero_has g in let o = outside_of g u idle in let a = o.3 in omega arith);
+        in_drop = λ g. both (in_drop g) (let z = zero_has g in let o = outside_of g u idle in let a = o.4 in omega arith);
+        puts = λ g. both (puts g) (let a = times-append g v.made.changes.put u.made.changes.put in omega arith);
+        loses = λ g. both (loses g) (let a = losses-append g v.made.changes.lost u.made.changes.lost in omega arith);
+        restores = λ g. both (restores g) (let a = times-append g v.made.changes.restored u.made.changes.restored in omega arith);
+        drops = λ g. both (drops g) (let a = times-append g v.made.changes.dropped u.made.changes.dropped in omega arith);
+        adds = λ x. both (adds x) (join_adds x v u idle);
       } in
       let sits : (x : View) → SitsIn f k s x → SitsIn f k (record s { views = vs' }) x = sits_equal f k s vs' q in
       let old = sits v mine in let gone = sits u theirs in let a' : Tally = tally k vs' in record {
@@ -286,8 +249,8 @@ module _ (f : File) (k : Opening) (s : State) (id : ℕ) (v : View) (r : Ruled f
                 low = let a = old.seen.low in
                     let b = gone.seen.low in omega arith;
                 heard = greater v.seen.number u.seen.number (λ z. 0 < z
-                    → 0 < a'.heard z) old.seen.heard gone.seen.heard;
-                shut = λ g. times_either g v.seen.shut u.seen.shut (0 < a'.shuts g)
+                    → 0 < a' (answer.number z)) old.seen.heard gone.seen.heard;
+                shut = λ g. times_either g v.seen.shut u.seen.shut (0 < a' (answer.closed g))
                     (old.seen.shut g) (gone.seen.shut g);
                 born = λ n. times_either n v.seen.born u.seen.born (s.name n ≢ 0) (old.seen.born n)
                     (gone.seen.born n);

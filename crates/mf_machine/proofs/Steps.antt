@@ -8,76 +8,48 @@ use Rattle.mf_machine.specs.declared.view.View.{View}
 use Rattle.mf_machine.specs.Actors.{has, on, live}
 use Rattle.mf_machine.specs.Counts.{bit, times, losses, lines, total, all_begun, all_opened}
 use Rattle.mf_machine.specs.File.{File, Opening, State, Holds, Home, HasCell}
-use Rattle.mf_machine.specs.Answers.{closed}
+use Rattle.mf_machine.specs.Answers as answer
+use Rattle.mf_machine.specs.Answers.{Answer}
 use Rattle.mf_machine.specs.Ruled.{Sits, StraysKnow, LastIs, RightIs, BuildIs, PinsKnow, InsideIs, NumberIs, PinsAre, NameIs, Words, SitsIn, Ruled}
 use Rattle.mf_machine.specs.Sums.{right_of, share_of, stray, pins, publishings, closings, puts, loses, loses_by}
 use Rattle.mf_machine.specs.Sums.{restores, drops, in_get, in_birth, in_retake, in_lose, in_drop, begun_of, opened_of}
-use Rattle.mf_machine.specs.Sums.{raises, sinks, hides, lost_bit, Tally, tally}
+use Rattle.mf_machine.specs.Sums.{raises, hides, lost_bit, adds, Tally, tally}
 use Rattle.mf_machine.specs.Worlds.{spent_view}
 use Rattle.mf_machine.proofs.Lists.{at_set}
-use Rattle.mf_machine.proofs.Entering.{Tale, silence, reply, Known, known, tell, gone_left}
+use Rattle.mf_machine.proofs.Entering.{Tale, reply, Known, known, tell, gone_left}
 use Rattle.mf_machine.proofs.Totals.{total_set, total_same, total_grows}
 use Rattle.mf_machine.proofs.Frames.{Grows, Onward, Builds, Ends, onward_same, builds_same, ends_same, onward_eq, builds_eq, ends_eq, Says, KnownIs, told_is, sits_on}
 
 -- what the actor adds to the tally doesn't fall
-pub record Adds (v w : View) : Type 0 where
-  pub numbers : (n : ℕ) → publishings n v ≤ publishings n w
-  pub closings : (g : ℕ) → closings g v ≤ closings g w
-  pub lost_by : (n l : ℕ) → loses_by n l v ≤ loses_by n l w
-  pub raises : (n : ℕ) → raises n v ≤ raises n w
-  pub sinks : (n : ℕ) → sinks n v ≤ sinks n w
-  pub hides : (n : ℕ) → hides n v ≤ hides n w
-  pub begun : begun_of v ≤ begun_of w
-  pub opened : (g : ℕ) → opened_of g v ≤ opened_of g w
+abbrev pub Adds : (v w : View) → Type 0
+Adds v w = (x : Answer) → adds x v ≤ adds x w
 
 -- so it is after a tale, but for what the actor is inside of
 abbrev adds_of : Known → View
 adds_of q = record spent_view { own = q.own; made = q.made; gone = q.gone }
 
-adds_told : (t : Tale) (q : Known) → Adds (adds_of q) (adds_of (tell t q))
-adds_told silence q = all_same q
-  where
-    all_same : (q : Known) → Adds (adds_of q) (adds_of q)
-    all_same q = record {
-      numbers = λ n. omega arith;
-      closings = λ n. omega arith;
-      lost_by = λ n l. omega arith;
-      raises = λ n. omega arith;
-      sinks = λ n. omega arith;
-      hides = λ n. omega arith;
-      begun = omega arith;
-      opened = λ n. omega arith;
-    }
-adds_told (reply (closed g)) q = record {
-  numbers = λ n. omega arith;
-  closings = λ n. omega arith;
-  lost_by = λ n l. omega arith;
-  raises = λ n. omega arith;
-  sinks = λ n. omega arith;
-  hides = λ n. omega arith;
-  begun = omega arith;
-  opened = λ n. omega arith;
-}
-adds_told t q = record {
-  numbers = λ n. omega arith;
-  closings = λ n. omega arith;
-  lost_by = λ n l. omega arith;
-  raises = λ n. omega arith;
-  sinks = λ n. omega arith;
-  hides = λ n. omega arith;
-  begun = omega arith;
-  opened = λ n. omega arith;
-}
+adds_told : (x : Answer) (t : Tale) (q : Known) → adds x (adds_of q) ≤ adds x (adds_of (tell t q))
+adds_told (answer.number k) (reply (answer.closed g)) q = omega arith
+adds_told (answer.closed k) (reply (answer.closed g)) q = omega arith
+adds_told (answer.lost k l) (reply (answer.closed g)) q = omega arith
+adds_told (answer.here k) (reply (answer.closed g)) q = omega arith
+adds_told (answer.not_lost k) (reply (answer.closed g)) q = omega arith
+adds_told (answer.not_dropped k) (reply (answer.closed g)) q = omega arith
+adds_told answer.begun (reply (answer.closed g)) q = omega arith
+adds_told (answer.opened k) (reply (answer.closed g)) q = omega arith
+adds_told x t q = omega arith
 
 pub adds_by : (t : Tale) (v w : View) → known w ≡ tell t (known v) → ((n : ℕ) → raises n v ≤ raises n w) → ((n : ℕ) → hides n v ≤ hides n w) → Adds v w
-adds_by t v w e raised hidden = let a : Adds (adds_of (known v)) (adds_of (known w)) = subst (λ q. Adds (adds_of (known v)) (adds_of q)) (sym e) (adds_told t (known v)) in
-    record { numbers = a.numbers; closings = a.closings; lost_by = a.lost_by; raises = raised; sinks = a.sinks; hides = hidden; begun = a.begun; opened = a.opened }
+adds_by t v w e raised hidden (answer.here n) = raised n
+adds_by t v w e raised hidden (answer.not_dropped n) = hidden n
+adds_by t v w e raised hidden x = subst (λ q. adds x (adds_of (known v)) ≤ adds x (adds_of q)) (sym e) (adds_told x t (known v))
 
 -- a step that changes nothing that the actor is inside of
 pub adds_calm : (t : Tale) (v w : View) → known w ≡ tell t (known v) → w.inside ≡ v.inside → Adds v w
-adds_calm t v w e i = let a : Adds (adds_of (known v)) (adds_of (known w)) = subst (λ q. Adds (adds_of (known v)) (adds_of q)) (sym e) (adds_told t (known v)) in
-    adds_by t v w e (λ n. let b = a.raises n in let d = ap (λ (z : Inside). has n z.bearing + has n z.retaking) i in omega arith)
-    (λ n. let b = a.hides n in let d = ap (λ (z : Inside). has n z.losing + has n z.dropping) i in omega arith)
+adds_calm t v w e i = let a : (x : Answer) → adds x (adds_of (known v)) ≤ adds x (adds_of (known w)) =
+    λ x. subst (λ q. adds x (adds_of (known v)) ≤ adds x (adds_of q)) (sym e) (adds_told x t (known v)) in
+    adds_by t v w e (λ n. let b = a (answer.here n) in let d = ap (λ (z : Inside). has n z.bearing + has n z.retaking) i in omega arith)
+    (λ n. let b = a (answer.not_dropped n) in let d = ap (λ (z : Inside). has n z.losing + has n z.dropping) i in omega arith)
 
 -- the sums of one name
 pub record Counts : Type 0 where
@@ -217,16 +189,7 @@ pins_eq p p' g x x' sh sh' al al' all all' r up ex es ea el = record {
 
 module _ (f : File) (k : Opening) (vs : List View) (id : ℕ) (v w : View) (at : get_elem? vs id ≡ some v) where
   pub grows : Adds v w → Grows (tally k vs) (tally k (set vs id w))
-  grows a = record {
-    heard = λ n. let t = total_grows (publishings n) vs id v w at (a.numbers n) in omega arith;
-    shuts = λ g. let t = total_grows (closings g) vs id v w at (a.closings g) in omega arith;
-    lost_by = λ n l. let t = total_grows (loses_by n l) vs id v w at (a.lost_by n l) in omega arith;
-    raised = λ n. let t = total_grows (raises n) vs id v w at (a.raises n) in omega arith;
-    sunk = λ n. let t = total_grows (sinks n) vs id v w at (a.sinks n) in omega arith;
-    hidden = λ n. let t = total_grows (hides n) vs id v w at (a.hides n) in omega arith;
-    begun = total_grows begun_of vs id v w at a.begun;
-    opened = λ g. total_grows (opened_of g) vs id v w at (a.opened g);
-  }
+  grows a x = let t = total_grows (adds x) vs id v w at (a x) in omega arith
 
   -- a name that the step doesn't touch
   pub name_else : (n x x' : ℕ) (h h' : Home) → NameIs f k n x h vs → Part n v w → x' ≡ x → h' ≡ h → ((g : ℕ) → closings g v ≤ closings g w)
@@ -264,12 +227,12 @@ module _ (f : File) (k : Opening) (vs : List View) (id : ℕ) (v w : View) (at :
         once = λ m h. let q = c m in let t = r.once m (omega arith) in (q ∙ t.0, t.1, let u = t.2 in omega arith);
       }
 
-  pub pins_same : (p p' g x x' : ℕ) → PinsAre p g x ((tally k vs).shuts g) (total (live g) vs) (total (pins g) vs) → p ≤ p' → x' ≡ x
+  pub pins_same : (p p' g x x' : ℕ) → PinsAre p g x (tally k vs (answer.closed g)) (total (live g) vs) (total (pins g) vs) → p ≤ p' → x' ≡ x
       → live g w ≡ live g v → stray g w ≡ stray g v → closings g w ≡ closings g v
-      → PinsAre p' g x' ((tally k (set vs id w)).shuts g) (total (live g) (set vs id w)) (total (pins g) (set vs id w))
+      → PinsAre p' g x' (tally k (set vs id w) (answer.closed g)) (total (live g) (set vs id w)) (total (pins g) (set vs id w))
   pins_same p p' g x x' r up e lives strays shut = let a = total_same (live g) vs id v w at lives in
       let b = total_same (pins g) vs id v w at (λ i. lives i + strays i) in let c = total_same (closings g) vs id v w at shut in
-      pins_eq p p' g x x' ((tally k vs).shuts g) ((tally k (set vs id w)).shuts g) (total (live g) vs) (total (live g) (set vs id w))
+      pins_eq p p' g x x' (tally k vs (answer.closed g)) (tally k (set vs id w) (answer.closed g)) (total (live g) vs) (total (live g) (set vs id w))
       (total (pins g) vs) (total (pins g) (set vs id w)) r up e (omega arith) a b
 
   pub live_same : (g : ℕ) → gate w ≡ gate v → live g w ≡ live g v
@@ -308,7 +271,7 @@ module _ (f : File) (k : Opening) (s : State) (id : ℕ) (v w : View) (s' : Stat
 
   -- which generations were born
   pub born_calm : Words f k s → get_elem? s.views id ≡ some v → w.made.numbers ≡ v.made.numbers → Onward s.name s'.name → (g : ℕ) → g < f.stages
-      → 0 < (tally k (set s.views id w)).heard (g + 1) → (n : ℕ) → n < f.names → Holds f g n → s'.name n ≢ 0
+      → 0 < tally k (set s.views id w) (answer.number (g + 1)) → (n : ℕ) → n < f.names → Holds f g n → s'.name n ≢ 0
   born_calm ws at same on g l h n i q e = let c = total_same (publishings (g + 1)) s.views id v w at (ap (times (g + 1)) same) in ws.born g l (omega arith) n i q (on.born n e)
 
   -- what is known of the actor beside its Met and Seen
@@ -374,7 +337,7 @@ pub gated : (f : File) (k : Opening) (s : State) (id : ℕ) (v w : View) (s' : S
     → known w ≡ tell t (known v) → Ruled f k s → get_elem? s.views id ≡ some v → s'.number ≡ s.number → ((n : ℕ) → s'.name n ≡ s.name n) → ((n : ℕ) → s'.home n ≡ s.home n)
     → w.made.changes ≡ v.made.changes → w.made.numbers ≡ v.made.numbers → w.inside ≡ v.inside → w.share ≡ v.share
     → (Grows (tally k s.views) (tally k (set s.views id w)) → (s'.right ≡ total right_of (set s.views id w)) × (s'.right ≤ 1) × ((g : ℕ) → g < f.stages
-    → PinsAre s'.number g (s'.pins g) ((tally k (set s.views id w)).shuts g) (total (live g) (set s.views id w)) (total (pins g) (set s.views id w)))
+    → PinsAre s'.number g (s'.pins g) (tally k (set s.views id w) (answer.closed g)) (total (live g) (set s.views id w)) (total (pins g) (set s.views id w)))
     × Says f k s.number s'.number s.name s'.name (tally k s.views) (tally k (set s.views id w)) t v.own)
     → (Sits f k s'.number s'.name (tally k (set s.views id w)) v → Mine f k s id v w s')
     → Ruled f k (After f k s id v w s')
@@ -387,7 +350,7 @@ gated f k s id v w s' t told r at ep ename ehome changes numbers inside share ga
       one = q.1;
       shares = let c = total_same share_of s.views id v w at share in let d = ws.shares in omega arith;
       pins = q.2;
-      names = names_calm f k s id v w s' ws at changes inside ename ehome add.closings;
+      names = names_calm f k s id v w s' ws at changes inside ename ehome (λ h. add (answer.closed h));
       born = born_calm f k s id v w s' ws at numbers on;
     }
     (omega arith) (λ j u ne e h. (ep, builds)) add on ends q.3

@@ -38,7 +38,7 @@ module _ (f : File) (k : Opening) (s : State) (id : ℕ) (v : View) (rest : Rest
       word.hidden_away f k n (s.name n) (s'.name n) (s.home n) (s'.home n)
       s.views (set s.views id w) (ws.names n inside) here now out (omega arith) (omega arith) (omega arith) (omega arith)
       (omega arith))
-      (λ up. (let b = up.raised n in omega arith, alive))
+      (λ up. (let b = up (answer.here n) in omega arith, alive))
       (λ old. record {
         active = active;
         strays = old.strays;

@@ -40,6 +40,10 @@ pub total_le : (f g : View → ℕ) (vs : List View) → ((j : ℕ) (v : View) �
 total_le f g [] h = omega arith
 total_le f g (x ∷ xs) h = let a = h 0 x refl in let r = total_le f g xs (λ j v e. h (suc j) v e) in omega arith
 
+pub total_none : (f : View → ℕ) (vs : List View) → ((v : View) → f v ≡ 0) → total f vs ≡ 0
+total_none f [] h = refl
+total_none f (v ∷ vs) h = let a = h v in let r = total_none f vs h in omega arith
+
 -- where the sum is positive, some actor has its part
 pub total_some : (f : View → ℕ) (vs : List View) → 0 < total f vs → (j : ℕ) × (u : View) × (get_elem? vs j ≡ some u) × (0 < f u)
 total_some f [] h = absurd (omega arith)

@@ -5,6 +5,7 @@ use mathlib.Core.Logic.{dite}
 use mathlib.Core.Option.{some, some-ne-none}
 use native.Mathlib.Decide.{ℕ_discrete, dec_le}
 use lib.ListN.{get_elem?}
+use Rattle.mf_machine.specs.Answers as answer
 use Rattle.mf_machine.specs.declared.view.Loss.{Loss}
 use Rattle.mf_machine.specs.declared.view.View.{View}
 use Rattle.mf_machine.specs.Actors.{Free, has}
@@ -129,7 +130,7 @@ module _ (f : File) (k : Opening) (n x x' : ℕ) (h h' : Home) (vs vs' : List Vi
       }
 
   -- Taken to Lost
-  pub shown_lost : (l : ℕ) → x ≡ 2 → x' ≡ 4 + l → h' ≡ empty → 0 < (tally k vs').lost_by n l → IsLoseLine f n l
+  pub shown_lost : (l : ℕ) → x ≡ 2 → x' ≡ 4 + l → h' ≡ empty → 0 < tally k vs' (answer.lost n l) → IsLoseLine f n l
       → c'.in_get + c'.in_birth + c'.in_retake + c'.in_lose + c'.in_drop + 1 ≡ c.in_get + c.in_birth + c.in_retake + c.in_lose + c.in_drop
       → c'.puts + c'.in_birth ≡ c.puts + c.in_birth → c'.drops ≡ c.drops → c'.loses ≡ c.loses + 1
       → c'.restores + c'.in_retake ≡ c.restores + c.in_retake → NameIs f k n x' h' vs'
@@ -139,7 +140,7 @@ module _ (f : File) (k : Opening) (n x x' : ℕ) (h h' : Home) (vs vs' : List Vi
         born = let t = r.born in omega arith;
         dropped = let t = r.dropped in omega arith;
         lost = λ _. let t = r.lost (λ z. omega arith) in omega arith;
-        line = λ j z. let same : l ≡ j = omega arith in subst (λ y. (0 < (tally k vs').lost_by n y) × IsLoseLine f n y) same (by, lose);
+        line = λ j z. let same : l ≡ j = omega arith in subst (λ y. (0 < tally k vs' (answer.lost n y)) × IsLoseLine f n y) same (by, lose);
         left = λ z. absurd (omega arith);
         here = λ z. absurd (omega arith);
         out = λ z. absurd (omega arith);
@@ -147,7 +148,7 @@ module _ (f : File) (k : Opening) (n x x' : ℕ) (h h' : Home) (vs vs' : List Vi
       }
 
   -- Taken to Dropped
-  pub shown_dropped : x ≡ 2 → x' ≡ 3 → h' ≡ empty → ((g : ℕ) → g < f.stages → Holds f g n → 0 < (tally k vs').shuts g)
+  pub shown_dropped : x ≡ 2 → x' ≡ 3 → h' ≡ empty → ((g : ℕ) → g < f.stages → Holds f g n → 0 < tally k vs' (answer.closed g))
       → c'.in_get + c'.in_birth + c'.in_retake + c'.in_lose + c'.in_drop + 1 ≡ c.in_get + c.in_birth + c.in_retake + c.in_lose + c.in_drop
       → c'.puts + c'.in_birth ≡ c.puts + c.in_birth → c'.drops ≡ c.drops + 1 → NameIs f k n x' h' vs'
   shown_dropped e e' bare left tk pb dr = let b = bits_low x 2 e in let b₀ = b.0 in let b₂ = b.1 in let b₃ = b.2 in let d = bits_low x' 3 e' in
@@ -164,7 +165,7 @@ module _ (f : File) (k : Opening) (n x x' : ℕ) (h h' : Home) (vs vs' : List Vi
       }
 
   -- Lost to Dropped
-  pub lost_dropped : 4 ≤ x → x' ≡ 3 → h' ≡ h → ((g : ℕ) → g < f.stages → Holds f g n → 0 < (tally k vs').shuts g)
+  pub lost_dropped : 4 ≤ x → x' ≡ 3 → h' ≡ h → ((g : ℕ) → g < f.stages → Holds f g n → 0 < tally k vs' (answer.closed g))
       → c'.in_get + c'.in_birth + c'.in_retake + c'.in_lose + c'.in_drop ≡ c.in_get + c.in_birth + c.in_retake + c.in_lose + c.in_drop
       → c'.puts + c'.in_birth ≡ c.puts + c.in_birth → c'.drops ≡ c.drops + 1 → NameIs f k n x' h' vs'
   lost_dropped e e' same left tk pb dr = let b = bits_lost x e in let b₀ = b.0 in let b₂ = b.1 in let b₃ = b.2 in let d = bits_low x' 3 e' in
@@ -195,10 +196,10 @@ module _ (name name' : ℕ → ℕ) (n : ℕ) (else_where : (m : ℕ) → m ≢ 
         (λ ne. let e = else_where m ne in inl (omega arith));
   }
 
-  pub ends_at : (f : File) (a : Tally) → (((g : ℕ) → g < f.stages → Holds f g n → 0 < a.shuts g) → 4 ≤ name n → (name' n ≡ name n) ⊎ (name' n ≡ 3))
+  pub ends_at : (f : File) (a : Tally) → (((g : ℕ) → g < f.stages → Holds f g n → 0 < a (answer.closed g)) → 4 ≤ name n → (name' n ≡ name n) ⊎ (name' n ≡ 3))
       → Ends f a name name'
   ends_at f a lost m shut l = dite (ℕ_discrete m n)
-      (λ d. subst (λ z. (name' z ≡ name z) ⊎ (name' z ≡ 3)) (sym d) (lost (subst (λ z. (g : ℕ) → g < f.stages → Holds f g z → 0 < a.shuts g) d shut)
+      (λ d. subst (λ z. (name' z ≡ name z) ⊎ (name' z ≡ 3)) (sym d) (lost (subst (λ z. (g : ℕ) → g < f.stages → Holds f g z → 0 < a (answer.closed g)) d shut)
       (subst (λ z. 4 ≤ name z) d l)))
       (λ ne. inl (else_where m ne))
 

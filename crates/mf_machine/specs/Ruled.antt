@@ -10,8 +10,8 @@ use Rattle.mf_machine.specs.declared.view.Seen.{Seen}
 use Rattle.mf_machine.specs.declared.view.View.{View}
 use Rattle.mf_machine.specs.Actors.{Among, HasRight, HasLooked, LastLooked, IsGetting, IsBearing, IsRetaking, IsLosing}
 use Rattle.mf_machine.specs.Actors.{IsDropping, IsTrying, on, live, PinHolds, NextHolds, WorkHolds, AllShown}
-use Rattle.mf_machine.specs.Answers.{Answer, number, refused, missed, closed, already, pinned, unborn, here, lost}
-use Rattle.mf_machine.specs.Answers.{not_lost, not_dropped, often}
+use Rattle.mf_machine.specs.Answers as answer
+use Rattle.mf_machine.specs.Answers.{Answer, often}
 use Rattle.mf_machine.specs.Counts.{bit, times, total}
 use Rattle.mf_machine.specs.File.{File, removed, Opening, State, Holds, IsLoseLine, Home, HasCell}
 use Rattle.mf_machine.specs.Sums.{right_of, share_of, pins, publishings, lost_bit, puts, loses, restores, drops}
@@ -25,7 +25,7 @@ use Rattle.mf_machine.specs.File.Home.{away, empty}
 pub record NumberIs (f : File) (k : Opening) (p : ℕ) (vs : List View) : Type 0 where
   pub top : p ≤ removed f
   pub floor : k.number ≤ p
-  pub heard : 0 < (tally k vs).heard p
+  pub heard : 0 < tally k vs (answer.number p)
   pub once : (m : ℕ) → 0 < total (publishings m) vs → (total (publishings m) vs ≡ 1) × (k.number < m) × (m ≤ p)
 
 -- the pins of one generation: the word x, how often it was closed, the pins that count and all pins
@@ -42,8 +42,8 @@ pub record NameIs (f : File) (k : Opening) (n w : ℕ) (home : Home) (vs : List 
   pub dropped : total (drops n) vs + bit (k.name n) word.dropped ≡ bit w word.dropped
   pub lost : w ≢ word.dropped
       → total (loses n) vs + lost_bit (k.name n) ≡ total (restores n) vs + total (in_retake n) vs + lost_bit w
-  pub line : (l : ℕ) → w ≡ word.lost l → (0 < (tally k vs).lost_by n l) × IsLoseLine f n l
-  pub left : w ≡ word.dropped → (g : ℕ) → g < f.stages → Holds f g n → 0 < (tally k vs).shuts g
+  pub line : (l : ℕ) → w ≡ word.lost l → (0 < tally k vs (answer.lost n l)) × IsLoseLine f n l
+  pub left : w ≡ word.dropped → (g : ℕ) → g < f.stages → Holds f g n → 0 < tally k vs (answer.closed g)
   pub here : w ≡ word.here → HasCell f n home
   pub out : w ≡ word.taken → home ≡ away
   pub bare : w ≢ word.here → w ≢ word.taken → home ≡ empty
@@ -55,17 +55,17 @@ pub record Words (f : File) (k : Opening) (s : State) : Type 0 where
   pub one : s.right ≤ 1
   pub shares : total share_of s.views ≤ 2 ^ 30
   pub pins : (g : ℕ) → g < f.stages
-      → PinsAre s.number g (s.pins g) ((tally k s.views).shuts g) (total (live g) s.views) (total (pins g) s.views)
+      → PinsAre s.number g (s.pins g) (tally k s.views (answer.closed g)) (total (live g) s.views) (total (pins g) s.views)
   pub names : (n : ℕ) → n < f.names
       → NameIs f k n (s.name n) (s.home n) s.views
-  pub born : (g : ℕ) → g < f.stages → 0 < (tally k s.views).heard (number_of g)
+  pub born : (g : ℕ) → g < f.stages → 0 < tally k s.views (answer.number (number_of g))
       → (n : ℕ) → n < f.names → Holds f g n → s.name n ≢ word.unborn
 
 -- what an actor has seen
 pub record SeenIs (number : ℕ) (name : ℕ → ℕ) (a : Tally) (s : Seen) : Type 0 where
   pub low : s.number ≤ number
-  pub heard : 0 < s.number → 0 < a.heard s.number
-  pub shut : (g : ℕ) → Among g s.shut → 0 < a.shuts g
+  pub heard : 0 < s.number → 0 < a (answer.number s.number)
+  pub shut : (g : ℕ) → Among g s.shut → 0 < a (answer.closed g)
   pub born : (n : ℕ) → Among n s.born → name n ≢ word.unborn
   pub dropped : (n : ℕ) → Among n s.dropped → name n ≡ word.dropped
 
@@ -105,23 +105,22 @@ pub record InsideIs (f : File) (name : ℕ → ℕ) (i : Inside) (hold work last
       → (n < f.names) × AllShown f m n × IsLost i.tried × ((name n ≡ i.tried) ⊎ (name n ≡ word.dropped))
 
 -- the ground of an answer that stands in the Met m
-abbrev pub Ground : Opening → Tally → Met → Answer → Type 0
-Ground k a m (number n) = 0 < a.heard n
-Ground k a m refused = m.begun < a.begun
-Ground k a m (missed g) = 0 < a.shuts g
-Ground k a m (closed g) = 0 < a.shuts g
-Ground k a m (already g) = 0 < a.shuts g
-Ground k a m (pinned g pins own) = own < pins → times g m.opened < a.opened g
-Ground k a m (unborn n) = k.name n ≡ word.unborn
-Ground k a m (here n) = 0 < a.raised n
-Ground k a m (lost n l) = 0 < a.lost_by n l
-Ground k a m (not_lost n) = 0 < a.sunk n
-Ground k a m (not_dropped n) = 0 < a.hidden n
-Ground k a m x = Unit {0}
+abbrev pub Ground : Tally → Met → Answer → Type 0
+Ground a m answer.refused = m.begun < a answer.begun
+Ground a m (answer.missed g) = 0 < a (answer.closed g)
+Ground a m (answer.already g) = 0 < a (answer.closed g)
+Ground a m (answer.pinned g pins own) = own < pins → times g m.opened < a (answer.opened g)
+Ground a m answer.begun = Unit {0}
+Ground a m (answer.opened g) = Unit {0}
+Ground a m (answer.put n) = Unit {0}
+Ground a m (answer.restored n) = Unit {0}
+Ground a m (answer.made_lost n l) = Unit {0}
+Ground a m (answer.dropped n) = Unit {0}
+Ground a m x = 0 < a x
 
 -- each answer in it has its ground
-abbrev pub MetIs : Opening → Tally → Met → Type 0
-MetIs k a m = (x : Answer) → 0 < often x m → Ground k a m x
+abbrev pub MetIs : Tally → Met → Type 0
+MetIs a m = (x : Answer) → 0 < often x m → Ground a m x
 
 -- what is known of one actor
 pub record Sits (f : File) (k : Opening) (number : ℕ) (name : ℕ → ℕ) (a : Tally) (v : View) : Type 0 where
@@ -133,8 +132,8 @@ pub record Sits (f : File) (k : Opening) (number : ℕ) (name : ℕ → ℕ) (a 
   pub build : BuildIs name v.build v.inside
   pub pins : PinsKnow f v.hold v.work v.own
   pub inside : InsideIs f name v.inside v.hold v.work v.last v.build v.own
-  pub own : MetIs k a v.own
-  pub gone : (i : ℕ) (m : Met) → get_elem? v.gone i ≡ some m → MetIs k a m
+  pub own : MetIs a v.own
+  pub gone : (i : ℕ) (m : Met) → get_elem? v.gone i ≡ some m → MetIs a m
 
 abbrev pub SitsIn : File → Opening → State → View → Type 0
 SitsIn f k s v = Sits f k s.number s.name (tally k s.views) v

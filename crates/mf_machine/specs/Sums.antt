@@ -2,6 +2,8 @@
 use Rattle.std.specs.Prelude.{ℕ, ◌+◌, List}
 use Rattle.mf_machine.specs.declared.view.View.{View}
 use Rattle.mf_machine.specs.Actors.{has, live}
+use Rattle.mf_machine.specs.Answers.{Answer, number, begun, opened, closed, unborn, here, lost, not_lost}
+use Rattle.mf_machine.specs.Answers.{not_dropped}
 use Rattle.mf_machine.specs.Counts.{bit, truth, times, losses, lines, total, all_begun, all_opened}
 use Rattle.mf_machine.specs.File.{Opening}
 use Rattle.mf_machine.specs.Words as word
@@ -80,31 +82,33 @@ hides n v = loses n v + drops n v + in_lose n v + in_drop n v
 abbrev pub lost_bit : ℕ → ℕ
 lost_bit w = truth (is_lost w)
 
--- the tally: sums over the opening and all actors, of which none ever falls
-pub record Tally : Type 0 where
-  -- how often the number was published, the opening's included
-  pub heard : ℕ → ℕ
-  -- how often the generation was closed
-  pub shuts : ℕ → ℕ
-  -- how often the name was lost with this line
-  pub lost_by : ℕ → ℕ → ℕ
-  -- what can have made the name Here
-  pub raised : ℕ → ℕ
-  -- what can have made a lose find nothing, and a discard
-  pub sunk : ℕ → ℕ
-  pub hidden : ℕ → ℕ
-  -- the begins answered true, and the pins made on an open g
-  pub begun : ℕ
-  pub opened : ℕ → ℕ
+-- what the opening and one actor add to the ground of an answer: how often the number was published; how often the
+-- generation was closed; how often the name was lost with this line; what can have made the name Here; what can have made
+-- a lose, and a discard, find nothing; the begins answered true, and the pins made on an open g
+abbrev pub had : Opening → Answer → ℕ
+had k (number n) = bit k.number n
+had k (closed g) = truth (k.closed g)
+had k (unborn n) = bit (k.name n) word.unborn
+had k (lost n l) = bit (k.name n) (word.lost l)
+had k (here n) = bit (k.name n) word.here
+had k (not_lost n) = bit (k.name n) word.unborn + bit (k.name n) word.dropped + lost_bit (k.name n)
+had k (not_dropped n) = bit (k.name n) word.unborn + bit (k.name n) word.dropped
+had k a = 0
+
+abbrev pub adds : Answer → View → ℕ
+adds (number n) v = publishings n v
+adds (closed g) v = closings g v
+adds (lost n l) v = loses_by n l v
+adds (here n) v = raises n v
+adds (not_lost n) v = sinks n v
+adds (not_dropped n) v = hides n v
+adds begun v = begun_of v
+adds (opened g) v = opened_of g v
+adds a v = 0
+
+-- the tally: for each answer a sum over the opening and all actors, which never falls
+abbrev pub Tally : Type 0
+Tally = Answer → ℕ
 
 abbrev pub tally : Opening → List View → Tally
-tally k vs = record {
-  heard = λ m. bit k.number m + total (publishings m) vs;
-  shuts = λ g. truth (k.closed g) + total (closings g) vs;
-  lost_by = λ n l. bit (k.name n) (word.lost l) + total (loses_by n l) vs;
-  raised = λ n. bit (k.name n) word.here + total (raises n) vs;
-  sunk = λ n. bit (k.name n) word.unborn + bit (k.name n) word.dropped + lost_bit (k.name n) + total (sinks n) vs;
-  hidden = λ n. bit (k.name n) word.unborn + bit (k.name n) word.dropped + total (hides n) vs;
-  begun = total begun_of vs;
-  opened = λ g. total (opened_of g) vs;
-}
+tally k vs a = had k a + total (adds a) vs

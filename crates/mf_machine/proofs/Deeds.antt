@@ -28,7 +28,7 @@ use Rattle.mf_machine.specs.Steps.{Take, Drop}
 use Rattle.mf_machine.specs.Steps as row
 use Rattle.mf_machine.specs.Worlds.{World, Row, Turn, stays, comes_out, goes_back, word_of, actor, Fits, read, noted, meets, acted, homes_after, fresh, nothing_seen, spent_view}
 use Rattle.mf_machine.proofs.Lists.{at_read, at_set, at_snoc}
-use Rattle.mf_machine.proofs.Seats.{stays as still}
+use Rattle.mf_machine.proofs.Lists.{stays as still}
 use Rattle.mf_machine.proofs.Words.{set_in}
 use Rattle.mf_machine.proofs.Entering.{Tale, silence, reply, news, known, tell, answer_of, Rises}
 

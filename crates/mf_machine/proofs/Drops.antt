@@ -17,7 +17,7 @@ use Rattle.mf_machine.specs.Worlds.{counted}
 use Rattle.mf_machine.proofs.Entering.{silence, reply}
 use Rattle.mf_machine.proofs.Frames.{Onward, Builds, Ends, shown_shut, sits_on}
 use Rattle.mf_machine.proofs.Lists.{bit_is, bit_not, bit_eq, times_here, times_else, times_more}
-use Rattle.mf_machine.proofs.Retakes.{pin_open, next_open, work_open}
+use Rattle.mf_machine.proofs.Turns.{pin_open, next_open, work_open}
 use Rattle.mf_machine.proofs.Steps.{Adds, ButName, After, grows, parts, adds_by, calm}
 use Rattle.mf_machine.proofs.Totals.{total_at, total_some}
 use Rattle.mf_machine.proofs.Words as word

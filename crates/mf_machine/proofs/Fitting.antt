@@ -11,7 +11,7 @@ use Rattle.mf_machine.specs.Worlds.{actor, read}
 use Rattle.mf_machine.proofs.Deeds.{here}
 use Rattle.mf_machine.proofs.Ends.{law}
 use Rattle.mf_machine.proofs.Laws.{reached}
-use Rattle.mf_machine.proofs.Retakes.{not_left, work_open}
+use Rattle.mf_machine.proofs.Turns.{not_left, work_open}
 use Rattle.mf_machine.proofs.Tells.{taken_is, lost_line}
 
 module _ (f : File) (k : Opening) (s : State) (r : Ruled f k s) (id : ℕ) (v : View) (at : get_elem? s.views id ≡ some v) where

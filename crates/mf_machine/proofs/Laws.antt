@@ -30,13 +30,9 @@ use Rattle.mf_machine.proofs.Totals.{total_at}
 use Rattle.mf_machine.proofs.Steps.{ButPins, ButRight, ButNumber, ButName}
 use Rattle.mf_machine.proofs.Numbers as numbers
 use Rattle.mf_machine.proofs.Pins as pins
-use Rattle.mf_machine.proofs.Rights as rights
 use Rattle.mf_machine.proofs.Seats as seats
 use Rattle.mf_machine.proofs.Sees as sees
-use Rattle.mf_machine.proofs.Takes as takes
-use Rattle.mf_machine.proofs.Births as births
-use Rattle.mf_machine.proofs.Loses as loses
-use Rattle.mf_machine.proofs.Retakes as retakes
+use Rattle.mf_machine.proofs.Turns as turns
 use Rattle.mf_machine.proofs.Drops as drops
 use Rattle.mf_machine.proofs.Openings.{opens}
 
@@ -175,12 +171,12 @@ module _ (f : File) (k : Opening) (rest : Rest f k) (w : World) (fits : Fits f w
   begin_at idle not = let x : ℕ = word_of w 1 in
       let P : Bool → Type 0 = λ b. Ruled f k (Now 1 (cond b 1 x) w.homes (counted 1 x (row.begin_view b v))) in
       dite (ℕ_discrete x 0)
-      (λ e. picked P (eqb x 0) true (eq-eqb x 0 e) (rights.begins f k s id 1 v r at active idle (Then 1 1 w.homes) x not e (is_right 1) (but_right 1)))
+      (λ e. picked P (eqb x 0) true (eq-eqb x 0 e) (numbers.begins f k s id 1 v r at active idle (Then 1 1 w.homes) x not e (is_right 1) (but_right 1)))
       (λ ne. picked P (eqb x 0) false (ne_eqb x 0 ne)
-      (told_only 1 (counted 1 x (row.refused v)) (rights.refuses f k s id 1 v r at active idle not (omega arith))))
+      (told_only 1 (counted 1 x (row.refused v)) (numbers.refuses f k s id 1 v r at active idle not (omega arith))))
 
   end_at : Idle v → v.build.right ≡ 1 → Ruled f k (read f (done f w id move.end))
-  end_at idle has = rights.ends_right f k s id 1 v r at active idle (Then 1 0 w.homes) (word_of w 1) has (is_right 0) (but_right 0)
+  end_at idle has = numbers.ends_right f k s id 1 v r at active idle (Then 1 0 w.homes) (word_of w 1) has (is_right 0) (but_right 0)
 
   publish_at : (next : ℕ) → MayPublish f next v → Ruled f k (read f (done f w id (move.publish next)))
   publish_at next may = let wide = fits.wide in numbers.publishes f k s id 0 v r at active may.1 may.4.0 next (word_of w 0) (Then 0 next w.homes)
@@ -188,7 +184,7 @@ module _ (f : File) (k : Opening) (rest : Rest f k) (w : World) (fits : Fits f w
 
   see_at : (n : ℕ) → MaySee f n v → Ruled f k (read f (done f w id (move.see n)))
   see_at n may = let i : ℕ = name_word f n in let x : ℕ = word_of w i in let idle = may.1 in let inside = may.2 in
-      let left = retakes.not_left f k s id n v r at inside may.3 in
+      let left = turns.not_left f k s id n v r at inside may.3 in
       let P : Bool → Bool → Type 0 = λ b d. Ruled f k (Now i x w.homes
       (counted i x (row.see_view (cond b told.Unborn (cond d (told.Lost (x - 4)) told.Here)) n v))) in
       dite (ℕ_discrete x 0)
@@ -207,7 +203,7 @@ module _ (f : File) (k : Opening) (rest : Rest f k) (w : World) (fits : Fits f w
       (counted i x (row.take_view (cond b row.chunk (cond d (row.gone (x - 4)) row.again)) n v))) in
       dite (ℕ_discrete x 1)
       (λ e. picked (λ b. P b (leb 4 x)) (eqb x 1) true (eq-eqb x 1 e)
-      (takes.takes f k s id v rest r at active (Slot_is n 2 away) n i x free inside may.3 e (but_slot n 2 away) (is_name n 2 inside) (is_home n away inside)))
+      (turns.takes f k s id v rest r at active (Slot_is n 2 away) n i x free inside may.3 e (but_slot n 2 away) (is_name n 2 inside) (is_home n away inside)))
       (λ ne. picked (λ b. P b (leb 4 x)) (eqb x 1) false (ne_eqb x 1 ne) (dite (dec_le 4 x)
       (λ l. picked (P false) (leb 4 x) true (le-leb 4 x l)
       (told_only i (counted i x (row.told_lost n (x - 4) v)) (sees.sees_lost f k s id i n v rest r at active idle inside (x - 4) (omega arith))))
@@ -220,7 +216,7 @@ module _ (f : File) (k : Opening) (rest : Rest f k) (w : World) (fits : Fits f w
       (counted i x (row.lose_view (cond b lose.Done (cond d lose.Again lose.Nothing)) n l v))) in
       dite (ℕ_discrete x 1)
       (λ e. picked (λ b. P b (eqb x 2)) (eqb x 1) true (eq-eqb x 1 e)
-      (loses.loses_turn f k s id v r at active (Slot_is n 2 away) n l i x free inside e (but_slot n 2 away) (is_name n 2 inside) (is_home n away inside)))
+      (turns.loses_turn f k s id v r at active (Slot_is n 2 away) n l i x free inside e (but_slot n 2 away) (is_name n 2 inside) (is_home n away inside)))
       (λ ne. picked (λ b. P b (eqb x 2)) (eqb x 1) false (ne_eqb x 1 ne) (dite (ℕ_discrete x 2)
       (λ e. picked (P false) (eqb x 2) true (eq-eqb x 2 e)
       (told_only i (counted i x v) (sees.sees_nothing f k s id i n v rest r at active idle inside)))
@@ -253,30 +249,30 @@ module _ (f : File) (k : Opening) (rest : Rest f k) (w : World) (fits : Fits f w
 
   -- the turns of a birth and a retake
   birth_at : (n : ℕ) → MayBirth f n v → Ruled f k (read f (done f w id (move.birth n)))
-  birth_at n may = births.bears f k s id v r at active (Slot_is n 2 away) n (name_word f n) (word_of w (name_word f n)) may.1 may.2 may.3 may.4
+  birth_at n may = turns.bears f k s id v r at active (Slot_is n 2 away) n (name_word f n) (word_of w (name_word f n)) may.1 may.2 may.3 may.4
       (but_slot n 2 away) (is_name n 2 may.2) (is_home n away may.2)
 
   retake_at : (n : ℕ) → MayRetake f n v → Ruled f k (read f (done f w id (move.retake n)))
-  retake_at n may = retakes.retakes f k s id v r at active (Slot_is n 2 away) n (name_word f n) (word_of w (name_word f n)) may.1 may.2 may.3 may.4
+  retake_at n may = turns.retakes f k s id v r at active (Slot_is n 2 away) n (name_word f n) (word_of w (name_word f n)) may.1 may.2 may.3 may.4
       (but_slot n 2 away) (is_name n 2 may.2) (is_home n away may.2)
 
   -- the returns
   give_at : (n : ℕ) → v.inside.getting ≡ n + 1 → HasCell f n (w.hands id) → Ruled f k (read f (done f w id (move.give n)))
   give_at n has hand = let h : Home = w.hands id in let inside = ((r.each id v at).inside.getting n has).0 in
-      takes.gives f k s id v rest r at active (Slot_is n 1 h) n (name_word f n) (word_of w (name_word f n)) has (but_slot n 1 h) (is_name n 1 inside)
+      turns.gives f k s id v rest r at active (Slot_is n 1 h) n (name_word f n) (word_of w (name_word f n)) has (but_slot n 1 h) (is_name n 1 inside)
       (cell_home n h inside hand)
 
   born_at : (n : ℕ) → v.inside.bearing ≡ n + 1 → HasCell f n (w.hands id) → Ruled f k (read f (done f w id (move.born n)))
   born_at n has hand = let h : Home = w.hands id in let inside = ((r.each id v at).inside.bearing n has).0 in
-      births.is_born f k s id v r at active (Slot_is n 1 h) n has (but_slot n 1 h) (is_name n 1 inside) (cell_home n h inside hand)
+      turns.is_born f k s id v r at active (Slot_is n 1 h) n has (but_slot n 1 h) (is_name n 1 inside) (cell_home n h inside hand)
 
   lost_at : (n l : ℕ) → row.MayBeLost f n l v → w.hands id ≡ empty → Ruled f k (read f (done f w id (move.lost n l)))
   lost_at n l may hand = let h : Home = w.hands id in let inside = (r.each id v at).inside.losing n may.1 in
-      loses.is_lost f k s id v r at active (Slot_is n (4 + l) h) n l may.1 may.3 (but_slot n (4 + l) h) (is_name n (4 + l) inside) (is_home n h inside ∙ hand)
+      turns.is_lost f k s id v r at active (Slot_is n (4 + l) h) n l may.1 may.3 (but_slot n (4 + l) h) (is_name n (4 + l) inside) (is_home n h inside ∙ hand)
 
   restored_at : (n : ℕ) → v.inside.retaking ≡ n + 1 → HasCell f n (w.hands id) → Ruled f k (read f (done f w id (move.restored n)))
   restored_at n has hand = let h : Home = w.hands id in let inside = ((r.each id v at).inside.retaking n has).0 in
-      retakes.is_restored f k s id v r at active (Slot_is n 1 h) n has (but_slot n 1 h) (is_name n 1 inside) (cell_home n h inside hand)
+      turns.is_restored f k s id v r at active (Slot_is n 1 h) n has (but_slot n 1 h) (is_name n 1 inside) (cell_home n h inside hand)
 
   dropped_at : (n : ℕ) → v.inside.dropping ≡ n + 1 → w.hands id ≡ empty → Ruled f k (read f (done f w id (move.dropped n)))
   dropped_at n has hand = let h : Home = w.hands id in let inside = ((r.each id v at).inside.dropping n has).0 in

@@ -29,6 +29,14 @@ module _ {A : Type 0} where
   at_append (x ∷ xs) ys zero m e = inl (0, e)
   at_append (x ∷ xs) ys (suc i) m e = ⊎_elim (λ t. inl (suc t.0, t.1)) (λ t. inr t) (at_append xs ys i m e)
 
+  -- what stands elsewhere stays
+  pub stays : (l : List A) (i j : ℕ) (a b : A) → j ≢ i → get_elem? l j ≡ some b → get_elem? (set l i a) j ≡ some b
+  stays [] i j a b ne e = e
+  stays (x ∷ xs) zero zero a b ne e = absurd (ne refl)
+  stays (x ∷ xs) zero (suc j) a b ne e = e
+  stays (x ∷ xs) (suc i) zero a b ne e = e
+  stays (x ∷ xs) (suc i) (suc j) a b ne e = stays xs i j a b (λ h. ne (ap suc h)) e
+
   -- what `get_elem?` finds is what `get_or` reads
   pub read_at : (l : List A) (i : ℕ) (a d : A) → get_elem? l i ≡ some a → get_or l i d ≡ a
   read_at [] i a d e = absurd (some-ne-none a (sym e))

@@ -1,24 +1,24 @@
--- look and publish
+-- look and publish, begin and end
 use Rattle.std.proofs.Common.{◌≡◌, ◌≢◌, ◌⊎◌, ℕ, ◌+◌, ◌<◌, ◌≤◌, List, ◌∷◌, set, sym, refl, ap, ◌∙◌, subst, ⊎_elim, arith}
 use mathlib.Core.Logic.{dite}
 use mathlib.Core.Option.{some}
 use native.Mathlib.Decide.{ℕ_discrete}
 use lib.ListN.{get_elem?}
-use Rattle.mf_machine.specs.Answers as answer
 use Rattle.mf_machine.specs.declared.view.View.{View}
 use Rattle.mf_machine.specs.Actors.{Active, Idle}
 use Rattle.mf_machine.specs.Answers.{number}
 use Rattle.mf_machine.specs.Counts.{times, total}
 use Rattle.mf_machine.specs.File.{File, Opening, State, Holds}
 use Rattle.mf_machine.specs.Ruled.{Words, Ruled}
-use Rattle.mf_machine.specs.Steps.{looked, published}
-use Rattle.mf_machine.specs.Sums.{right_of, share_of, publishings, tally}
+use Rattle.mf_machine.specs.Steps.{looked, published, begun, refused, ended}
+use Rattle.mf_machine.specs.Sums.{right_of, share_of, publishings, tally, begun_of}
 use Rattle.mf_machine.specs.Worlds.{counted}
-use Rattle.mf_machine.proofs.Entering.{reply, news}
+use Rattle.mf_machine.proofs.Entering.{reply, news, silence}
 use Rattle.mf_machine.proofs.Lists.{times_here, times_else}
-use Rattle.mf_machine.proofs.Totals.{total_set, total_same, total_two}
+use Rattle.mf_machine.proofs.Totals.{total_set, total_same, total_two, total_other}
 use Rattle.mf_machine.proofs.Frames.{onward_eq, builds_eq, ends_eq, idle_inside, build_on}
-use Rattle.mf_machine.proofs.Steps.{Adds, adds_calm, ButNumber, After, grows, pins_same, names_calm, part_same, calm, stepped}
+use Rattle.mf_machine.proofs.Steps.{Adds, adds_calm, ButNumber, After, grows, pins_same, names_calm, part_same, calm, stepped, ButRight, gated}
+use Rattle.mf_machine.specs.Answers as answer
 
 -- two actors can't both have the right
 pub one_right : (f : File) (k : Opening) (s : State) (i j : ℕ) (v u : View) → Words f k s → get_elem? s.views i ≡ some v
@@ -96,3 +96,65 @@ module _ (f : File) (k : Opening) (s : State) (id i : ℕ) (v : View) (r : Ruled
         pins = λ g h. let t = mine.pins g h in (t.0, let a = t.1 in omega arith, t.2);
         inside = idle_inside f s'.name w.inside w.hold w.work w.last w.build w.own idle (λ n e. mine.inside.getting n e);
       }
+
+module _ (f : File) (k : Opening) (s : State) (id i : ℕ) (v : View) (r : Ruled f k s) (at : get_elem? s.views id ≡ some v) (active : Active v)
+    (idle : Idle v) where
+  module _ (s' : State) where
+    -- a begin that met a free right
+    pub begins : (y : ℕ) → v.build.right ≡ 0 → s.right ≡ 0 → s'.right ≡ 1 → ButRight s s'
+        → Ruled f k (After f k s id v (counted i y (begun v)) s')
+    begins y not free er but = let ep = but.number in let epins = but.pins in let w : View = counted i y (begun v) in let ws = r.words in
+        gated f k s id v w s' (reply answer.begun) refl r at ep but.names but.homes refl refl refl refl
+        (λ g. (
+          let c = total_set right_of s.views id v w at in let d = ws.right in omega arith,
+          omega arith,
+          (λ g l. pins_same f k s.views id v w at s.number s'.number g (s.pins g) (s'.pins g) (ws.pins g l) (omega arith) (epins g) refl refl refl),
+          (tt, tt),
+        ))
+        (λ old. record {
+          active = active;
+          strays = old.strays;
+          last = old.last;
+          right = record { bit = omega arith; current = λ _ z. absurd (omega arith); has = λ _. omega arith };
+          build = record { unborn = λ _ n h. absurd (omega arith); lost = λ _ n h. absurd (omega arith); settled = λ n h. absurd (omega arith) };
+          pins = old.pins;
+          inside = idle_inside f s'.name w.inside w.hold w.work w.last w.build w.own idle old.inside.getting;
+        })
+
+    -- end
+    pub ends_right : (y : ℕ) → v.build.right ≡ 1 → s'.right ≡ 0 → ButRight s s'
+        → Ruled f k (After f k s id v (counted i y (ended v)) s')
+    ends_right y has er but = let ep = but.number in let epins = but.pins in let w : View = counted i y (ended v) in let ws = r.words in
+        gated f k s id v w s' silence refl r at ep but.names but.homes refl refl refl refl
+        (λ g. (
+          let c = total_set right_of s.views id v w at in let d = ws.right in let o = ws.one in omega arith,
+          omega arith,
+          (λ g l. pins_same f k s.views id v w at s.number s'.number g (s.pins g) (s'.pins g) (ws.pins g l) (omega arith) (epins g) refl refl refl),
+          tt,
+        ))
+        (λ old. record {
+          active = active;
+          strays = old.strays;
+          last = old.last;
+          right = record { bit = omega arith; current = λ z _. absurd (omega arith); has = λ z. absurd (omega arith) };
+          build = record { unborn = λ z. absurd (omega arith); lost = λ z. absurd (omega arith); settled = old.build.settled };
+          pins = old.pins;
+          inside = idle_inside f s'.name w.inside w.hold w.work w.last w.build w.own idle old.inside.getting;
+        })
+
+  -- a begin that met a held right: the holder has a begin answered true
+  pub refuses : v.build.right ≡ 0 → 0 < s.right → Ruled f k (record s { views = set s.views id (counted i s.right (refused v)) })
+  refuses not held = let w : View = counted i s.right (refused v) in let mine = r.each id v at in let ws = r.words in
+      let cause : v.own.begun < total begun_of s.views = (let is = ws.right in let o = total_other right_of s.views id v at (omega arith) in
+      let theirs = r.each o.0 o.1 o.3 in let b = theirs.right.bit in let has = theirs.right.has (let c = o.4 in omega arith) in
+      let two = total_two begun_of s.views id o.0 v o.1 o.2 at o.3 in omega arith) in
+      calm f k s id v w (reply answer.refused) refl r at refl (λ n. part_same n v w refl refl) (λ add g. (let b = g answer.begun in omega arith, tt))
+      (λ g. record {
+        active = active;
+        strays = mine.strays;
+        last = mine.last;
+        right = mine.right;
+        build = mine.build;
+        pins = mine.pins;
+        inside = idle_inside f s.name w.inside w.hold w.work w.last w.build w.own idle mine.inside.getting;
+      })

@@ -1,5 +1,5 @@
 -- splitting and joining
-use Rattle.std.proofs.Common.{◌≡◌, ◌≢◌, ℕ, zero, suc, ◌+◌, ◌/◌, ◌<◌, ◌≤◌, max, List, [], ◌∷◌, ◌++◌, set, sym, refl, ap, ◌∙◌, subst, ⊎_elim, arith}
+use Rattle.std.proofs.Common.{◌≡◌, ◌≢◌, ℕ, zero, suc, ◌+◌, ◌/◌, ◌<◌, ◌≤◌, max, List, [], ◌∷◌, ◌++◌, set, sym, refl, ◌∙◌, subst, ⊎_elim, arith}
 use mathlib.Core.Logic.{dite}
 use mathlib.Core.Option.{some, some-injective, some-ne-none}
 use native.Mathlib.Decide.{ℕ_discrete, dec_le}
@@ -18,7 +18,7 @@ use Rattle.mf_machine.specs.Sums.{adds, right_of, share_of, stray, pins, puts, l
 use Rattle.mf_machine.specs.Sums.{restores, drops, in_get, in_birth, in_retake, in_lose, in_drop}
 use Rattle.mf_machine.specs.Sums.{Tally, tally}
 use Rattle.mf_machine.specs.Worlds.{fresh, spent_view, nothing_met, nothing_seen, outside, nothing_built}
-use Rattle.mf_machine.proofs.Lists.{at_set, at_snoc, at_append, bit_not, times-append, times_either, losses-append, lines-append, up_to_is, beyond_is}
+use Rattle.mf_machine.proofs.Lists.{stays, at_set, at_snoc, at_append, bit_not, times-append, times_either, losses-append, lines-append, up_to_is, beyond_is}
 use Rattle.mf_machine.proofs.Totals.{total_set, total_snoc, all_begun-append, all_opened-append}
 use Rattle.mf_machine.proofs.Frames.{Grows, onward_same, builds_same, ends_same, idle_inside, sits_on}
 use Rattle.mf_machine.proofs.Steps.{pins_eq}
@@ -106,13 +106,6 @@ fresh_sits f k p name a share strays seen spent few saw = record {
   own = met_nothing a;
   gone = λ i m e. absurd (some-ne-none m (sym e));
 }
-
-pub stays : (l : List View) (i j : ℕ) (a b : View) → j ≢ i → get_elem? l j ≡ some b → get_elem? (set l i a) j ≡ some b
-stays [] i j a b ne e = e
-stays (x ∷ xs) zero zero a b ne e = absurd (ne refl)
-stays (x ∷ xs) zero (suc j) a b ne e = e
-stays (x ∷ xs) (suc i) zero a b ne e = e
-stays (x ∷ xs) (suc i) (suc j) a b ne e = stays xs i j a b (λ h. ne (ap suc h)) e
 
 greater : (a b : ℕ) (P : ℕ → Type 0) → P a → P b → P (max a b)
 greater a b P p q = dite (dec_le a b) (λ l. subst P (let e : b ≡ max a b = omega arith in e) q)

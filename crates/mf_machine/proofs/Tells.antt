@@ -13,7 +13,7 @@ use Rattle.mf_machine.specs.Ruled.{Ruled}
 use Rattle.mf_machine.specs.Sums.{share_of, stray, pins}
 use Rattle.mf_machine.proofs.Totals.{total_le}
 use Rattle.mf_machine.proofs.Pins.{open_word, spent_pins, live_le}
-use Rattle.mf_machine.proofs.Retakes.{not_left}
+use Rattle.mf_machine.proofs.Turns.{not_left}
 
 double : View → ℕ
 double v = 2 * v.share

@@ -15,7 +15,7 @@ use Rattle.mf_machine.specs.Rest.{Rest}
 use Rattle.mf_machine.specs.Ruled.{Ruled}
 use Rattle.mf_machine.specs.Steps as row
 use Rattle.mf_machine.specs.Worlds.{World, read, actor, Fits, fresh, first_view, first_seen, nothing_made}
-use Rattle.mf_machine.proofs.Adding.{met_sum-append}
+use Rattle.mf_machine.proofs.Totals.{met_sum-append}
 use Rattle.mf_machine.proofs.Deeds.{own, mine, here, from_at, tells, tale, rises}
 use Rattle.mf_machine.proofs.Entering.{known, Tells, has_on, tells_on}
 use Rattle.mf_machine.proofs.Goes.{mine_in, theirs_in, both_made}

@@ -21,7 +21,7 @@ use Rattle.mf_machine.proofs.Turns.{pin_open, next_open, work_open}
 use Rattle.mf_machine.proofs.Steps.{Adds, ButName, After, grows, parts, adds_by, calm}
 use Rattle.mf_machine.proofs.Totals.{total_at, total_some}
 use Rattle.mf_machine.proofs.Words as word
-use Rattle.mf_machine.proofs.Words.{onward_at, builds_at, ends_at, outside_of, turn_else, back_else, named, renamed, bits_low, hides_parts}
+use Rattle.mf_machine.proofs.Words.{bits_lost, onward_at, builds_at, ends_at, outside_of, turn_else, back_else, named, renamed, bits_low, hides_parts}
 
 -- a Taken name of closed generations alone is inside a lose or a drop
 pub only_going : (f : File) (k : Opening) (s : State) (n : ℕ) → Ruled f k s → n < f.names → ((g : ℕ) → g < f.stages → Holds f g n
@@ -52,10 +52,8 @@ module _ (f : File) (k : Opening) (s : State) (id : ℕ) (v : View) (r : Ruled f
       renamed f k s id v w s' n silence refl r at refl but (omega arith, omega arith) (λ z. omega arith)
       (λ m ne. record { counts = ap (λ z. record (parts m v) { in_drop = z }) (turn_else m n v.inside.dropping ne z); lost_by = λ l. refl })
       (adds_by silence v w refl (λ m. omega arith) (λ m. let b = bit_not v.inside.dropping (m + 1) (λ e. omega arith) in omega arith))
-      (λ mv up. let m₀ = mv.in_get in let m₁ = mv.in_birth in let m₂ = mv.in_retake in let m₃ = mv.in_lose in let m₄ = mv.in_drop in
-      let m₅ = mv.puts in let m₆ = mv.loses in let m₇ = mv.restores in let m₈ = mv.drops in
-      word.hidden_away f k n (s.name n) (s'.name n) (s.home n) (s'.home n)
-      s.views (set s.views id w) (ws.names n inside) here now out (omega arith) (omega arith) (omega arith) (omega arith)
+      (λ mv up. let z = bits_low (s.name n) 1 here in let z₀ = z.0 in let z₄ = z.3 in word.away_with f k n (s.name n) (s'.name n) (s.home n) (s'.home n)
+      s.views (set s.views id w) (ws.names n inside) (λ e. omega arith) (λ e. omega arith) now out (omega arith) (omega arith) (omega arith) (omega arith)
       (omega arith))
       (λ up. tt)
       (λ old. record {
@@ -91,11 +89,9 @@ module _ (f : File) (k : Opening) (s : State) (id : ℕ) (v : View) (r : Ruled f
       (adds_by (reply (answer.dropped n)) v w refl (λ m. omega arith)
       (λ m. dite (ℕ_discrete m n) (λ e. subst (λ z. hides z v ≤ hides z w) (sym e) (omega arith))
       (λ ne. let a = times_else m n v.made.changes.dropped ne in let b = back_else m n v.inside.dropping ne has_it in omega arith)))
-      (λ mv up. let m₀ = mv.in_get in let m₁ = mv.in_birth in let m₂ = mv.in_retake in let m₃ = mv.in_lose in let m₄ = mv.in_drop in
-      let m₅ = mv.puts in let m₆ = mv.loses in let m₇ = mv.restores in let m₈ = mv.drops in
-      word.shown_dropped f k n (s.name n) (s'.name n) (s.home n) (s'.home n)
-      s.views (set s.views id w) (ws.names n inside) taken now bare
-      (λ g l h. let a = shut n (mine.inside.dropping n has_it).1 g l h in let b = up (answer.closed g) in omega arith) (omega arith) (omega arith) (omega arith))
+      (λ mv up. let z = bits_low (s'.name n) 3 now in let z₂ = z.2 in let z₃ = z.3 in word.back_with f k n (s.name n) (s'.name n) (s.home n) (s'.home n)
+      s.views (set s.views id w) (ws.names n inside) taken (λ z. omega arith) (λ z. omega arith) (omega arith) (omega arith) (omega arith) (omega arith) (omega arith)
+      (λ z. absurd (omega arith)) (λ _. bare) (λ l z. absurd (omega arith)) (λ _. λ g l h. let a = shut n (mine.inside.dropping n has_it).1 g l h in let b = up (answer.closed g) in omega arith))
       (λ up. (tt, now))
       (λ old. record {
         active = active;
@@ -130,9 +126,7 @@ module _ (f : File) (k : Opening) (s : State) (id : ℕ) (v : View) (r : Ruled f
       (grows f k s.views id v w at add) on (λ _. builds) ends in
       named f k s id v w s' n (reply (answer.dropped n)) refl r at refl but
       (λ m ne. record { counts = ap (λ z. record (parts m v) { drops = z }) (times_else m n v.made.changes.dropped ne); lost_by = λ l. refl }) add
-      (λ mv up. let m₀ = mv.in_get in let m₁ = mv.in_birth in let m₂ = mv.in_retake in let m₃ = mv.in_lose in let m₄ = mv.in_drop in
-      let m₅ = mv.puts in let m₆ = mv.loses in let m₇ = mv.restores in let m₈ = mv.drops in
-      word.lost_dropped f k n (s.name n) (s'.name n) (s.home n) (s'.home n)
+      (λ mv up. word.lost_dropped f k n (s.name n) (s'.name n) (s.home n) (s'.home n)
       s.views (set s.views id w) (ws.names n inside) lost now stays
       (λ g l h. let a = shut n try.1 g l h in let b = up (answer.closed g) in omega arith) (omega arith) (omega arith) (omega arith))
       (λ j u ne e h. builds) on ends (λ up. (tt, now))

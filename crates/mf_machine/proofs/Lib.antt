@@ -16,8 +16,7 @@ pub mod Exhibits
 pub mod Totals
 pub mod Entering
 pub mod Deeds
-pub mod Tells
 pub mod Goes
 pub mod Told
-pub mod Fitting
+pub mod Tells
 pub mod Guards

@@ -241,14 +241,10 @@ module _ (f : File) (k : Opening) (s : State) (id : ℕ) (v : View) (r : Ruled f
               seen = record {
                 low = let a = old.seen.low in
                     let b = gone.seen.low in omega arith;
-                heard = greater v.seen.number u.seen.number (λ z. 0 < z
-                    → 0 < a' (answer.number z)) old.seen.heard gone.seen.heard;
-                shut = λ g. times_either g v.seen.shut u.seen.shut (0 < a' (answer.closed g))
-                    (old.seen.shut g) (gone.seen.shut g);
-                born = λ n. times_either n v.seen.born u.seen.born (s.name n ≢ 0) (old.seen.born n)
-                    (gone.seen.born n);
-                dropped = λ n. times_either n v.seen.dropped u.seen.dropped (s.name n ≡ 3) (old.seen.dropped n)
-                    (gone.seen.dropped n);
+                heard = greater v.seen.number u.seen.number (λ z. 0 < z → 0 < a' (answer.number z)) old.seen.heard gone.seen.heard;
+                shut = λ g. times_either g v.seen.shut u.seen.shut (0 < a' (answer.closed g)) (old.seen.shut g) (gone.seen.shut g);
+                born = λ n. times_either n v.seen.born u.seen.born (s.name n ≢ 0) (old.seen.born n) (gone.seen.born n);
+                dropped = λ n. times_either n v.seen.dropped u.seen.dropped (s.name n ≡ 3) (old.seen.dropped n) (gone.seen.dropped n);
               };
               last = λ m e. let t = old.last m e in (let a = t.0 in omega arith, t.1);
               right = old.right;

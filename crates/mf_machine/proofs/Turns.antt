@@ -16,7 +16,7 @@ use Rattle.mf_machine.proofs.Lists.{bit_is, bit_not, bit_eq, times_here, times_e
 use Rattle.mf_machine.proofs.Totals.{total_at, total_set}
 use Rattle.mf_machine.proofs.Sees.{here_cause}
 use Rattle.mf_machine.proofs.Steps.{ButName, After, parts, adds_by}
-use Rattle.mf_machine.proofs.Words.{outside_of, turn_else, back_else, renamed, more_born, onward_at, ends_at, named, lines_other}
+use Rattle.mf_machine.proofs.Words.{bits_low, bits_lost, outside_of, turn_else, back_else, renamed, more_born, onward_at, ends_at, named, lines_other}
 use mathlib.Core.Logic.{dite}
 use native.Mathlib.Decide.{ℕ_discrete}
 use Rattle.mf_machine.proofs.Frames.{Onward, Ends, right_on}
@@ -37,10 +37,8 @@ module _ (f : File) (k : Opening) (s : State) (id : ℕ) (v : View) (rest : Rest
       renamed f k s id v w s' n (reply (answer.here n)) refl r at refl but (omega arith, omega arith) alive
       (λ m ne. record { counts = ap (λ z. record (parts m v) { in_get = z }) (turn_else m n v.inside.getting ne z); lost_by = λ l. refl })
       (adds_by (reply (answer.here n)) v w refl (λ m. omega arith) (λ m. omega arith))
-      (λ mv up. let m₀ = mv.in_get in let m₁ = mv.in_birth in let m₂ = mv.in_retake in let m₃ = mv.in_lose in let m₄ = mv.in_drop in
-      let m₅ = mv.puts in let m₆ = mv.loses in let m₇ = mv.restores in let m₈ = mv.drops in
-      word.hidden_away f k n (s.name n) (s'.name n) (s.home n) (s'.home n)
-      s.views (set s.views id w) (ws.names n inside) here now out (omega arith) (omega arith) (omega arith) (omega arith)
+      (λ mv up. let z = bits_low (s.name n) 1 here in let z₀ = z.0 in let z₄ = z.3 in word.away_with f k n (s.name n) (s'.name n) (s.home n) (s'.home n)
+      s.views (set s.views id w) (ws.names n inside) (λ e. omega arith) (λ e. omega arith) now out (omega arith) (omega arith) (omega arith) (omega arith)
       (omega arith))
       (λ up. (let b = up (answer.here n) in omega arith, alive))
       (λ old. record {
@@ -70,11 +68,9 @@ module _ (f : File) (k : Opening) (s : State) (id : ℕ) (v : View) (rest : Rest
       renamed f k s id v w s' n silence refl r at refl but (omega arith, omega arith) (λ z. omega arith)
       (λ m ne. record { counts = ap (λ z. record (parts m v) { in_get = z }) (back_else m n v.inside.getting ne has_it); lost_by = λ l. refl })
       (adds_by silence v w refl (λ m. omega arith) (λ m. omega arith))
-      (λ mv up. let m₀ = mv.in_get in let m₁ = mv.in_birth in let m₂ = mv.in_retake in let m₃ = mv.in_lose in let m₄ = mv.in_drop in
-      let m₅ = mv.puts in let m₆ = mv.loses in let m₇ = mv.restores in let m₈ = mv.drops in
-      word.shown_here f k n (s.name n) (s'.name n) (s.home n) (s'.home n)
-      s.views (set s.views id w) (ws.names n inside) taken now full (omega arith) (omega arith) (omega arith)
-      (omega arith) (omega arith))
+      (λ mv up. let z = bits_low (s'.name n) 1 now in let z₂ = z.2 in let z₃ = z.3 in word.back_with f k n (s.name n) (s'.name n) (s.home n) (s'.home n)
+      s.views (set s.views id w) (ws.names n inside) taken (λ z. omega arith) (λ z. omega arith) (omega arith) (omega arith) (omega arith) (omega arith) (omega arith)
+      (λ _. full) (λ ne. absurd (ne now)) (λ l z. absurd (omega arith)) (λ z. absurd (omega arith)))
       (λ up. tt)
       (λ old. record {
         active = active;
@@ -108,10 +104,8 @@ module _ (f : File) (k : Opening) (s : State) (id : ℕ) (v : View) (r : Ruled f
       named f k s id v w s' n silence refl r at refl but
       (λ m ne. record { counts = ap (λ z. record (parts m v) { in_birth = z }) (turn_else m n v.inside.bearing ne z); lost_by = λ l. refl })
       (adds_by silence v w refl (λ m. let b = bit_not v.inside.bearing (m + 1) (λ e. omega arith) in omega arith) (λ m. omega arith))
-      (λ mv up. let m₀ = mv.in_get in let m₁ = mv.in_birth in let m₂ = mv.in_retake in let m₃ = mv.in_lose in let m₄ = mv.in_drop in
-      let m₅ = mv.puts in let m₆ = mv.loses in let m₇ = mv.restores in let m₈ = mv.drops in
-      word.born_away f k n (s.name n) (s'.name n) (s.home n) (s'.home n)
-      s.views (set s.views id w) (ws.names n inside) unborn now out (omega arith) (omega arith) (omega arith)
+      (λ mv up. let z = bits_low (s.name n) 0 unborn in let z₀ = z.0 in let z₄ = z.3 in word.away_with f k n (s.name n) (s'.name n) (s.home n) (s'.home n)
+      s.views (set s.views id w) (ws.names n inside) (λ e. omega arith) (λ e. omega arith) now out (omega arith) (omega arith) (omega arith)
       (omega arith) (omega arith))
       (λ j u ne e h. absurd (one_right f k s id j v u ws at e ne has h)) on ends (λ up. tt)
       record {
@@ -155,11 +149,9 @@ module _ (f : File) (k : Opening) (s : State) (id : ℕ) (v : View) (r : Ruled f
       (adds_by (reply (answer.put n)) v w refl
       (λ m. dite (ℕ_discrete m n) (λ e. subst (λ z. raises z v ≤ raises z w) (sym e) (omega arith))
       (λ ne. let a = times_else m n v.made.changes.put ne in let b = back_else m n v.inside.bearing ne has_it in omega arith)) (λ m. omega arith))
-      (λ mv up. let m₀ = mv.in_get in let m₁ = mv.in_birth in let m₂ = mv.in_retake in let m₃ = mv.in_lose in let m₄ = mv.in_drop in
-      let m₅ = mv.puts in let m₆ = mv.loses in let m₇ = mv.restores in let m₈ = mv.drops in
-      word.shown_here f k n (s.name n) (s'.name n) (s.home n) (s'.home n)
-      s.views (set s.views id w) (ws.names n inside) taken now full (omega arith)
-      (omega arith) (omega arith) (omega arith) (omega arith))
+      (λ mv up. let z = bits_low (s'.name n) 1 now in let z₂ = z.2 in let z₃ = z.3 in word.back_with f k n (s.name n) (s'.name n) (s.home n) (s'.home n)
+      s.views (set s.views id w) (ws.names n inside) taken (λ z. omega arith) (λ z. omega arith) (omega arith) (omega arith) (omega arith) (omega arith) (omega arith)
+      (λ _. full) (λ ne. absurd (ne now)) (λ l z. absurd (omega arith)) (λ z. absurd (omega arith)))
       (λ up. (tt, alive))
       (λ old. record {
         active = active;
@@ -192,10 +184,8 @@ module _ (f : File) (k : Opening) (s : State) (id : ℕ) (v : View) (r : Ruled f
       renamed f k s id v w s' n silence refl r at refl but (omega arith, omega arith) (λ z. omega arith)
       (λ m ne. record { counts = ap (λ z. record (parts m v) { in_lose = z }) (turn_else m n v.inside.losing ne z); lost_by = λ l. refl })
       (adds_by silence v w refl (λ m. omega arith) (λ m. let b = bit_not v.inside.losing (m + 1) (λ e. omega arith) in omega arith))
-      (λ mv up. let m₀ = mv.in_get in let m₁ = mv.in_birth in let m₂ = mv.in_retake in let m₃ = mv.in_lose in let m₄ = mv.in_drop in
-      let m₅ = mv.puts in let m₆ = mv.loses in let m₇ = mv.restores in let m₈ = mv.drops in
-      word.hidden_away f k n (s.name n) (s'.name n) (s.home n) (s'.home n)
-      s.views (set s.views id w) (ws.names n inside) here now out (omega arith) (omega arith) (omega arith) (omega arith)
+      (λ mv up. let z = bits_low (s.name n) 1 here in let z₀ = z.0 in let z₄ = z.3 in word.away_with f k n (s.name n) (s'.name n) (s.home n) (s'.home n)
+      s.views (set s.views id w) (ws.names n inside) (λ e. omega arith) (λ e. omega arith) now out (omega arith) (omega arith) (omega arith) (omega arith)
       (omega arith))
       (λ up. tt)
       (λ old. record {
@@ -232,11 +222,10 @@ module _ (f : File) (k : Opening) (s : State) (id : ℕ) (v : View) (r : Ruled f
       (adds_by (reply (answer.made_lost n l)) v w refl (λ m. omega arith)
       (λ m. dite (ℕ_discrete m n) (λ e. subst (λ z. hides z v ≤ hides z w) (sym e) (omega arith))
       (λ ne. let a = losses_else m n l v.made.changes.lost ne in let b = back_else m n v.inside.losing ne has_it in omega arith)))
-      (λ mv up. let m₀ = mv.in_get in let m₁ = mv.in_birth in let m₂ = mv.in_retake in let m₃ = mv.in_lose in let m₄ = mv.in_drop in
-      let m₅ = mv.puts in let m₆ = mv.loses in let m₇ = mv.restores in let m₈ = mv.drops in
-      word.shown_lost f k n (s.name n) (s'.name n) (s.home n) (s'.home n)
-      s.views (set s.views id w) (ws.names n inside) l taken now bare by line (omega arith)
-      (omega arith) (omega arith) (omega arith) (omega arith))
+      (λ mv up. let z = bits_lost (s'.name n) (omega arith) in let z₂ = z.2 in let z₃ = z.3 in word.back_with f k n (s.name n) (s'.name n) (s.home n) (s'.home n)
+      s.views (set s.views id w) (ws.names n inside) taken (λ z. omega arith) (λ z. omega arith) (omega arith) (omega arith) (omega arith) (omega arith) (omega arith)
+      (λ z. absurd (omega arith)) (λ _. bare) (λ j z. subst (λ y. (0 < tally k (set s.views id w) (answer.lost n y)) × IsLoseLine f n y)
+      (let c : l ≡ j = omega arith in c) (by, line)) (λ z. absurd (omega arith)))
       (λ up. (tt, tt))
       (λ old. record {
         active = active;
@@ -297,10 +286,8 @@ module _ (f : File) (k : Opening) (s : State) (id : ℕ) (v : View) (r : Ruled f
       named f k s id v w s' n silence refl r at refl but
       (λ m ne. record { counts = ap (λ z. record (parts m v) { in_retake = z }) (turn_else m n v.inside.retaking ne z); lost_by = λ l. refl })
       (adds_by silence v w refl (λ m. let b = bit_not v.inside.retaking (m + 1) (λ e. omega arith) in omega arith) (λ m. omega arith))
-      (λ mv up. let m₀ = mv.in_get in let m₁ = mv.in_birth in let m₂ = mv.in_retake in let m₃ = mv.in_lose in let m₄ = mv.in_drop in
-      let m₅ = mv.puts in let m₆ = mv.loses in let m₇ = mv.restores in let m₈ = mv.drops in
-      word.lost_away f k n (s.name n) (s'.name n) (s.home n) (s'.home n)
-      s.views (set s.views id w) (ws.names n inside) lost now out (omega arith) (omega arith) (omega arith) (omega arith)
+      (λ mv up. let z = bits_lost (s.name n) lost in let z₀ = z.0 in let z₄ = z.3 in word.away_with f k n (s.name n) (s'.name n) (s.home n) (s'.home n)
+      s.views (set s.views id w) (ws.names n inside) (λ e. omega arith) (λ e. omega arith) now out (omega arith) (omega arith) (omega arith) (omega arith)
       (omega arith))
       (λ j u ne e h. absurd (one_right f k s id j v u ws at e ne has h)) on ends (λ up. tt)
       record {
@@ -342,11 +329,9 @@ module _ (f : File) (k : Opening) (s : State) (id : ℕ) (v : View) (r : Ruled f
       (adds_by (reply (answer.restored n)) v w refl
       (λ m. dite (ℕ_discrete m n) (λ e. subst (λ z. raises z v ≤ raises z w) (sym e) (omega arith))
       (λ ne. let a = times_else m n v.made.changes.restored ne in let b = back_else m n v.inside.retaking ne has_it in omega arith)) (λ m. omega arith))
-      (λ mv up. let m₀ = mv.in_get in let m₁ = mv.in_birth in let m₂ = mv.in_retake in let m₃ = mv.in_lose in let m₄ = mv.in_drop in
-      let m₅ = mv.puts in let m₆ = mv.loses in let m₇ = mv.restores in let m₈ = mv.drops in
-      word.shown_here f k n (s.name n) (s'.name n) (s.home n) (s'.home n)
-      s.views (set s.views id w) (ws.names n inside) taken now full (omega arith)
-      (omega arith) (omega arith) (omega arith) (omega arith))
+      (λ mv up. let z = bits_low (s'.name n) 1 now in let z₂ = z.2 in let z₃ = z.3 in word.back_with f k n (s.name n) (s'.name n) (s.home n) (s'.home n)
+      s.views (set s.views id w) (ws.names n inside) taken (λ z. omega arith) (λ z. omega arith) (omega arith) (omega arith) (omega arith) (omega arith) (omega arith)
+      (λ _. full) (λ ne. absurd (ne now)) (λ l z. absurd (omega arith)) (λ z. absurd (omega arith)))
       (λ up. (tt, alive))
       (λ old. record {
         active = active;

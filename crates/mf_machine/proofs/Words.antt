@@ -57,17 +57,17 @@ module _ (f : File) (k : Opening) (n x x' : ℕ) (h h' : Home) (vs vs' : List Vi
   abbrev c' : Counts
   c' = counts n vs'
 
-  -- Here to Taken
-  pub hidden_away : x ≡ 1 → x' ≡ 2 → h' ≡ away
+  -- Unborn, Here or Lost to Taken
+  pub away_with : x ≢ 2 → x ≢ 3 → x' ≡ 2 → h' ≡ away
       → c'.in_get + c'.in_birth + c'.in_retake + c'.in_lose + c'.in_drop ≡ c.in_get + c.in_birth + c.in_retake + c.in_lose + c.in_drop + 1
-      → c'.puts + c'.in_birth ≡ c.puts + c.in_birth → c'.drops ≡ c.drops → c'.loses ≡ c.loses → c'.restores + c'.in_retake ≡ c.restores + c.in_retake
-      → NameIs f k n x' h' vs'
-  hidden_away e e' out tk pb dr lo rr = let b = bits_low x 1 e in let b₀ = b.0 in let b₂ = b.1 in let b₃ = b.2 in let b₄ = b.3 in
+      → c'.puts + c'.in_birth ≡ c.puts + c.in_birth + bit x 0 → c'.drops ≡ c.drops → c'.loses ≡ c.loses
+      → c'.restores + c'.in_retake ≡ c.restores + c.in_retake + lost_bit x → NameIs f k n x' h' vs'
+  away_with n₂ n₃ e' out tk pb dr lo rr = let b₂ = bit_not x 2 n₂ in let b₃ = bit_not x 3 n₃ in
       let d = bits_low x' 2 e' in let d₀ = d.0 in let d₂ = d.1 in let d₃ = d.2 in let d₄ = d.3 in record {
         taken = let t = r.taken in omega arith;
         born = let t = r.born in omega arith;
         dropped = let t = r.dropped in omega arith;
-        lost = λ _. let t = r.lost (λ z. omega arith) in omega arith;
+        lost = λ _. let t = r.lost n₃ in omega arith;
         line = λ l z. absurd (omega arith);
         left = λ z. absurd (omega arith);
         here = λ z. absurd (omega arith);
@@ -75,93 +75,24 @@ module _ (f : File) (k : Opening) (n x x' : ℕ) (h h' : Home) (vs vs' : List Vi
         bare = λ _ z. absurd (z e');
       }
 
-  -- Unborn to Taken, in a birth
-  pub born_away : x ≡ 0 → x' ≡ 2 → h' ≡ away
-      → c'.in_get + c'.in_birth + c'.in_retake + c'.in_lose + c'.in_drop ≡ c.in_get + c.in_birth + c.in_retake + c.in_lose + c.in_drop + 1
-      → c'.puts + c'.in_birth ≡ c.puts + c.in_birth + 1 → c'.drops ≡ c.drops → c'.loses ≡ c.loses
-      → c'.restores + c'.in_retake ≡ c.restores + c.in_retake → NameIs f k n x' h' vs'
-  born_away e e' out tk pb dr lo rr = let b = bits_low x 0 e in let b₀ = b.0 in let b₂ = b.1 in let b₃ = b.2 in let b₄ = b.3 in
-      let d = bits_low x' 2 e' in let d₀ = d.0 in let d₂ = d.1 in let d₃ = d.2 in let d₄ = d.3 in record {
-        taken = let t = r.taken in omega arith;
-        born = let t = r.born in omega arith;
-        dropped = let t = r.dropped in omega arith;
-        lost = λ _. let t = r.lost (λ z. omega arith) in omega arith;
-        line = λ l z. absurd (omega arith);
-        left = λ z. absurd (omega arith);
-        here = λ z. absurd (omega arith);
-        out = λ _. out;
-        bare = λ _ z. absurd (z e');
-      }
-
-  -- Lost to Taken, in a retake
-  pub lost_away : 4 ≤ x → x' ≡ 2 → h' ≡ away
-      → c'.in_get + c'.in_birth + c'.in_retake + c'.in_lose + c'.in_drop ≡ c.in_get + c.in_birth + c.in_retake + c.in_lose + c.in_drop + 1
-      → c'.puts + c'.in_birth ≡ c.puts + c.in_birth → c'.drops ≡ c.drops → c'.loses ≡ c.loses
-      → c'.restores + c'.in_retake ≡ c.restores + c.in_retake + 1 → NameIs f k n x' h' vs'
-  lost_away e e' out tk pb dr lo rr = let b = bits_lost x e in let b₀ = b.0 in let b₂ = b.1 in let b₃ = b.2 in let b₄ = b.3 in
-      let d = bits_low x' 2 e' in let d₀ = d.0 in let d₂ = d.1 in let d₃ = d.2 in let d₄ = d.3 in record {
-        taken = let t = r.taken in omega arith;
-        born = let t = r.born in omega arith;
-        dropped = let t = r.dropped in omega arith;
-        lost = λ _. let t = r.lost (λ z. omega arith) in omega arith;
-        line = λ l z. absurd (omega arith);
-        left = λ z. absurd (omega arith);
-        here = λ z. absurd (omega arith);
-        out = λ _. out;
-        bare = λ _ z. absurd (z e');
-      }
-
-  -- Taken to Here
-  pub shown_here : x ≡ 2 → x' ≡ 1 → HasCell f n h'
+  -- Taken to Here, Lost or Dropped
+  pub back_with : x ≡ 2 → x' ≢ 0 → x' ≢ 2
       → c'.in_get + c'.in_birth + c'.in_retake + c'.in_lose + c'.in_drop + 1 ≡ c.in_get + c.in_birth + c.in_retake + c.in_lose + c.in_drop
-      → c'.puts + c'.in_birth ≡ c.puts + c.in_birth → c'.drops ≡ c.drops → c'.loses ≡ c.loses → c'.restores + c'.in_retake ≡ c.restores + c.in_retake
-      → NameIs f k n x' h' vs'
-  shown_here e e' full tk pb dr lo rr = let b = bits_low x 2 e in let b₀ = b.0 in let b₂ = b.1 in let b₃ = b.2 in let b₄ = b.3 in
-      let d = bits_low x' 1 e' in let d₀ = d.0 in let d₂ = d.1 in let d₃ = d.2 in let d₄ = d.3 in record {
+      → c'.puts + c'.in_birth ≡ c.puts + c.in_birth → c'.drops ≡ c.drops + bit x' 3 → c'.loses ≡ c.loses + lost_bit x'
+      → c'.restores + c'.in_retake ≡ c.restores + c.in_retake → (x' ≡ 1 → HasCell f n h') → (x' ≢ 1 → h' ≡ empty)
+      → ((l : ℕ) → x' ≡ 4 + l → (0 < tally k vs' (answer.lost n l)) × IsLoseLine f n l)
+      → (x' ≡ 3 → (g : ℕ) → g < f.stages → Holds f g n → 0 < tally k vs' (answer.closed g)) → NameIs f k n x' h' vs'
+  back_with e n₀ n₂ tk pb dr lo rr full bare line left = let b = bits_low x 2 e in let b₀ = b.0 in let b₂ = b.1 in let b₃ = b.2 in let b₄ = b.3 in
+      let d₀ = bit_not x' 0 n₀ in let d₂ = bit_not x' 2 n₂ in record {
         taken = let t = r.taken in omega arith;
         born = let t = r.born in omega arith;
         dropped = let t = r.dropped in omega arith;
         lost = λ _. let t = r.lost (λ z. omega arith) in omega arith;
-        line = λ l z. absurd (omega arith);
-        left = λ z. absurd (omega arith);
-        here = λ _. full;
-        out = λ z. absurd (omega arith);
-        bare = λ z. absurd (z e');
-      }
-
-  -- Taken to Lost
-  pub shown_lost : (l : ℕ) → x ≡ 2 → x' ≡ 4 + l → h' ≡ empty → 0 < tally k vs' (answer.lost n l) → IsLoseLine f n l
-      → c'.in_get + c'.in_birth + c'.in_retake + c'.in_lose + c'.in_drop + 1 ≡ c.in_get + c.in_birth + c.in_retake + c.in_lose + c.in_drop
-      → c'.puts + c'.in_birth ≡ c.puts + c.in_birth → c'.drops ≡ c.drops → c'.loses ≡ c.loses + 1
-      → c'.restores + c'.in_retake ≡ c.restores + c.in_retake → NameIs f k n x' h' vs'
-  shown_lost l e e' bare by lose tk pb dr lo rr = let b = bits_low x 2 e in let b₀ = b.0 in let b₂ = b.1 in let b₃ = b.2 in let b₄ = b.3 in
-      let d = bits_lost x' (omega arith) in let d₀ = d.0 in let d₂ = d.1 in let d₃ = d.2 in let d₄ = d.3 in record {
-        taken = let t = r.taken in omega arith;
-        born = let t = r.born in omega arith;
-        dropped = let t = r.dropped in omega arith;
-        lost = λ _. let t = r.lost (λ z. omega arith) in omega arith;
-        line = λ j z. let same : l ≡ j = omega arith in subst (λ y. (0 < tally k vs' (answer.lost n y)) × IsLoseLine f n y) same (by, lose);
-        left = λ z. absurd (omega arith);
-        here = λ z. absurd (omega arith);
-        out = λ z. absurd (omega arith);
-        bare = λ _ _. bare;
-      }
-
-  -- Taken to Dropped
-  pub shown_dropped : x ≡ 2 → x' ≡ 3 → h' ≡ empty → ((g : ℕ) → g < f.stages → Holds f g n → 0 < tally k vs' (answer.closed g))
-      → c'.in_get + c'.in_birth + c'.in_retake + c'.in_lose + c'.in_drop + 1 ≡ c.in_get + c.in_birth + c.in_retake + c.in_lose + c.in_drop
-      → c'.puts + c'.in_birth ≡ c.puts + c.in_birth → c'.drops ≡ c.drops + 1 → NameIs f k n x' h' vs'
-  shown_dropped e e' bare left tk pb dr = let b = bits_low x 2 e in let b₀ = b.0 in let b₂ = b.1 in let b₃ = b.2 in let d = bits_low x' 3 e' in
-      let d₀ = d.0 in let d₂ = d.1 in let d₃ = d.2 in record {
-        taken = let t = r.taken in omega arith;
-        born = let t = r.born in omega arith;
-        dropped = let t = r.dropped in omega arith;
-        lost = λ z. absurd (z e');
-        line = λ l z. absurd (omega arith);
-        left = λ _. left;
-        here = λ z. absurd (omega arith);
-        out = λ z. absurd (omega arith);
-        bare = λ _ _. bare;
+        line = line;
+        left = left;
+        here = full;
+        out = λ z. absurd (n₂ z);
+        bare = λ ne _. bare ne;
       }
 
   -- Lost to Dropped

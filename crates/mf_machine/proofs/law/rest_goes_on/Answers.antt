@@ -1,4 +1,4 @@
-use Rattle.mf_machine.proofs.Fitting as fits
+use Rattle.mf_machine.proofs.Tells as fits
 use Rattle.mf_machine.proofs.law.rest_goes_on.Goals as goal
 
 pub returns : goal.returns

@@ -8,7 +8,7 @@ use Rattle.mf_machine.specs.declared.view.Met.{Met}
 use Rattle.mf_machine.specs.declared.view.View.{View}
 use Rattle.mf_machine.specs.Counts.{bit, times}
 use Rattle.mf_machine.specs.File.{File, Holds}
-use Rattle.mf_machine.specs.Words.{vacant, filled, Fills}
+use Rattle.mf_machine.specs.Words.{no, yes, vacant, filled, Fills}
 
 -- n stands in the list
 abbrev pub Among : ℕ → List ℕ → Type 0
@@ -43,13 +43,13 @@ Active v = 0 < v.share
 
 -- it has the right; it hasn't; it has looked at the published number since its begin
 abbrev pub HasRight : Build → Type 0
-HasRight b = b.right ≡ 1
+HasRight b = b.right ≡ yes
 
 abbrev pub LacksRight : Build → Type 0
-LacksRight b = b.right ≡ 0
+LacksRight b = b.right ≡ no
 
 abbrev pub HasLooked : Build → Type 0
-HasLooked b = b.looked ≡ 1
+HasLooked b = b.looked ≡ yes
 
 -- the number that it last looked at
 abbrev pub LastLooked : (last number : ℕ) → Type 0

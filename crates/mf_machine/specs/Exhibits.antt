@@ -15,8 +15,8 @@ use Rattle.mf_machine.specs.Kept.{IsActor, IsInside, Number, Pins, Born, Seen, B
 use Rattle.mf_machine.specs.Kept.{Cells, NumberGiven, Greatest, PublishedOnce, ClosedOnce, PutOnce, DroppedOnce}
 use Rattle.mf_machine.specs.Kept.{ClosedBy, UnbornStill, DroppedBy, LostOnceMore, LostAsOften, LineGiven, Cause}
 use Rattle.mf_machine.specs.Laws.{IsLast}
-use Rattle.mf_machine.specs.Moves.{Move, Deed, look, pin, unpin, close, begin, end, publish, see, take, give, birth, born}
-use Rattle.mf_machine.specs.Moves.{lose, lost, retake, restored, drop, drop_again, dropped, exchange, split, join}
+use Rattle.mf_machine.specs.Moves.{Move, Deed, look, pin, unpin, close, begin, end, publish, see, take, give, birth}
+use Rattle.mf_machine.specs.Moves.{born, lose, lost, retake, restored, drop, drop_again, dropped, exchange, split, join}
 use Rattle.mf_machine.specs.Moves.{Runs, run}
 use Rattle.mf_machine.specs.Rest.{Rest}
 use Rattle.mf_machine.specs.Steps.{pin_answer, close_answer, begin_answer, see_answer, take_answer, chunk, gone, again}
@@ -59,7 +59,8 @@ pub record Exhibits (f : File) (w : World) (ms : List Move) : Type 0 where
   pub unpinned : Done (unpin Hold) f w ms × Done (unpin Work) f w ms
   -- a close of a generation without pins, one that met another's pins, and one of a closed generation
   pub close_done : Answered close pins_word close_answer closing.Done f w ms
-  pub close_pins : Occurs (λ s id d. (g n : ℕ) × (d ≡ close g) × (close_answer (word_of s (pins_word g)) ≡ closing.Pins n)
+  pub close_pins : Occurs (λ s id d. (g n : ℕ) × (d ≡ close g)
+      × (close_answer (word_of s (pins_word g)) ≡ closing.Pins n)
       × (live g (actor s id) < n)) f w ms
   pub close_already : Answered close pins_word close_answer closing.Already f w ms
   -- the right refused and given back, a look, and the file removed
@@ -69,12 +70,14 @@ pub record Exhibits (f : File) (w : World) (ms : List Move) : Type 0 where
   pub removes : Occurs (λ s id d. d ≡ publish (removed f)) f w ms
   -- a see told Unborn, Lost, and Here, the latter while another actor is inside of the very name
   pub see_unborn : Answered see (name_word f) see_answer told.Unborn f w ms
-  pub see_lost : Occurs (λ s id d. (n l : ℕ) × (d ≡ see n) × (see_answer (word_of s (name_word f n)) ≡ told.Lost l)) f w ms
+  pub see_lost : Occurs (λ s id d. (n l : ℕ) × (d ≡ see n)
+      × (see_answer (word_of s (name_word f n)) ≡ told.Lost l)) f w ms
   pub between : Occurs (λ s id d. (n j : ℕ) × (d ≡ see n) × (see_answer (word_of s (name_word f n)) ≡ told.Here)
       × (j ≢ id) × IsInside (actor s j) n) f w ms
   -- a take with the chunk, Lost and Again, and a give
   pub take_chunk : Answered take (name_word f) take_answer chunk f w ms
-  pub take_lost : Occurs (λ s id d. (n l : ℕ) × (d ≡ take n) × (take_answer (word_of s (name_word f n)) ≡ gone l)) f w ms
+  pub take_lost : Occurs (λ s id d. (n l : ℕ) × (d ≡ take n)
+      × (take_answer (word_of s (name_word f n)) ≡ gone l)) f w ms
   pub take_again : Answered take (name_word f) take_answer again f w ms
   pub gives : Done give f w ms
   pub births : Done birth f w ms

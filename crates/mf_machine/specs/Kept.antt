@@ -172,8 +172,8 @@ pub record Accounted (f : File) (k : Opening) (s : State) : Type 0 where
 -- with that line; one answered Here was so, or some actor has put or restored it, or is inside its birth or retake. One
 -- whose lose was answered Nothing was Unborn, Lost or Dropped at the opening, or some actor has lost or dropped it; one
 -- whose discard was, was Unborn or Dropped at the opening, or some actor has lost or dropped it, or is inside its lose
--- or drop. Where a begin was answered false, all Mets together have more begins answered true than this one has; where a
--- close of g met more pins than its actor had, they have more pins made on an open g
+-- or drop. Where a begin was answered false, all Mets together have more begins answered true than this one has. Where
+-- a close of g met more pins than its actor had, they have more pins made on an open g
 abbrev pub Cause : Opening → State → Met → Answer → Type 0
 Cause k s m (number n) = (n ≡ k.number) ⊎ Stands (publishings n) s
 Cause k s m (missed g) = (k.closed g ≡ true) ⊎ Stands (closings g) s

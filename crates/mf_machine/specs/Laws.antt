@@ -1,5 +1,5 @@
 -- What is promised of every list of moves from a file at rest.
-use Rattle.std.specs.Prelude.{◌≡◌, ◌≢◌, ◌⊎◌, ◌↔◌, ℕ, ◌+◌, ◌/◌, ◌^◌, ◌<◌, ◌≤◌, leb, true, Option, Some}
+use Rattle.std.specs.Prelude.{◌≡◌, ◌≢◌, ◌⊎◌, ◌↔◌, ℕ, ◌+◌, ◌/◌, ◌<◌, ◌≤◌, leb, true, Option, Some}
 use Rattle.std.specs.Prelude.{List, [], ◌∷◌, ◌++◌, length, slice_set}
 use mathlib.Core.Option.{some}
 use lib.ListN.{get_elem?}
@@ -20,7 +20,7 @@ use Rattle.mf_machine.specs.Ruled.{Ruled}
 use Rattle.mf_machine.specs.Steps.{old_half, new_half, joined}
 use Rattle.mf_machine.specs.Sums.{publishings, closings, loses_by, begun_of, opened_of, lost_bit}
 use Rattle.mf_machine.specs.Words as word
-use Rattle.mf_machine.specs.Words.{number_word, right_word, pins_word, closed_bit, absent, IsLost}
+use Rattle.mf_machine.specs.Words.{whole_share, number_word, right_word, pins_word, closed_bit, absent, IsLost}
 use Rattle.mf_machine.specs.Worlds.{World, actor, word_of, read, Opens, nothing_made, nothing_met, spent_view}
 use Rattle.mf_machine.specs.File.Home.{empty}
 use Rattle.mf_machine.specs.Moves as move
@@ -40,7 +40,8 @@ PinnedStays = (f : File) (k : Opening) (w : World) → Reached f k w → (j : �
 
 -- the last actor: it has the whole share again, and no pin, no right and no name Taken
 abbrev pub IsLast : State → ℕ → View → Type 0
-IsLast s j v = IsActor s j v × (v.share ≡ 2 ^ 30) × IsFreeSlot Hold v × IsFreeSlot Work v × LacksRight v.build × Free v
+IsLast s j v = IsActor s j v × (v.share ≡ whole_share)
+    × IsFreeSlot Hold v × IsFreeSlot Work v × LacksRight v.build × Free v
 
 -- what rests of a state without its actors
 abbrev pub resting : State → Opening

@@ -1,6 +1,6 @@
 -- The rule in the form in which each step keeps it: each word is a sum over the opening and all actors, and each
 -- actor's facts hold by sums that never fall. The ten rules of `Kept` follow from it.
-use Rattle.std.specs.Prelude.{◌≡◌, ◌≢◌, ◌⊎◌, ℕ, ◌+◌, ◌*◌, ◌^◌, ◌<◌, ◌≤◌, List}
+use Rattle.std.specs.Prelude.{◌≡◌, ◌≢◌, ◌⊎◌, ℕ, ◌+◌, ◌*◌, ◌<◌, ◌≤◌, List}
 use mathlib.Core.Option.{some}
 use lib.ListN.{get_elem?}
 use Rattle.mf_machine.specs.declared.view.Build.{Build}
@@ -17,7 +17,7 @@ use Rattle.mf_machine.specs.File.{File, removed, Opening, State, Holds, IsLoseLi
 use Rattle.mf_machine.specs.Sums.{right_of, share_of, pins, publishings, lost_bit, puts, loses, restores, drops}
 use Rattle.mf_machine.specs.Sums.{in_get, in_birth, in_retake, in_lose, in_drop, Tally, tally}
 use Rattle.mf_machine.specs.Words as word
-use Rattle.mf_machine.specs.Words.{number_of, closed_bit, IsLost}
+use Rattle.mf_machine.specs.Words.{whole_share, number_of, closed_bit, IsLost}
 use Rattle.mf_machine.specs.Worlds.{spent_view}
 use Rattle.mf_machine.specs.File.Home.{away, empty}
 
@@ -53,9 +53,10 @@ pub record Words (f : File) (k : Opening) (s : State) : Type 0 where
   pub number : NumberIs f k s.number s.views
   pub right : s.right ≡ total right_of s.views
   pub one : s.right ≤ 1
-  pub shares : total share_of s.views ≤ 2 ^ 30
+  pub shares : total share_of s.views ≤ whole_share
   pub pins : (g : ℕ) → g < f.stages
-      → PinsAre s.number g (s.pins g) (tally k s.views (answer.closed g)) (total (live g) s.views) (total (pins g) s.views)
+      → PinsAre s.number g (s.pins g)
+      (tally k s.views (answer.closed g)) (total (live g) s.views) (total (pins g) s.views)
   pub names : (n : ℕ) → n < f.names
       → NameIs f k n (s.name n) (s.home n) s.views
   pub born : (g : ℕ) → g < f.stages → 0 < tally k s.views (answer.number (number_of g))

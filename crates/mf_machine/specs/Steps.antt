@@ -19,7 +19,7 @@ use Rattle.mf_machine.specs.Counts.{up_to, beyond, without}
 use Rattle.mf_machine.specs.File.{File, Holds, IsLoseLine, name_word, removed}
 use Rattle.mf_machine.specs.Words as word
 use Rattle.mf_machine.specs.Words.{number_word, right_word, pins_word, closed_bit, is_open, is_lost, is_here, line_of}
-use Rattle.mf_machine.specs.Words.{number_of, vacant, filled}
+use Rattle.mf_machine.specs.Words.{no, yes, no_pins, number_of, vacant, filled}
 use Rattle.mf_machine.specs.Worlds.{Row, word_row, here_row, turn_row, back_row, steps, silent, fresh}
 
 -- look: always. It answers the published number
@@ -85,7 +85,7 @@ abbrev pub MayClose : File → ℕ → View → Type 0
 MayClose f g v = Active v × Idle v × (g < f.stages) × (number_of g < v.seen.number)
 
 abbrev pub close_answer : ℕ → Closed
-close_answer x = cond (x == 0) closing.Done (cond (is_open x) (closing.Pins x) closing.Already)
+close_answer x = cond (x == no_pins) closing.Done (cond (is_open x) (closing.Pins x) closing.Already)
 
 abbrev pub closed_done : ℕ → View → View
 closed_done g v = record v {
@@ -111,7 +111,7 @@ close_view (closing.Pins n) g v = closed_pins g n v
 close_view closing.Already g v = closed_already g v
 
 abbrev pub close_row : ℕ → Row
-close_row g = word_row (pins_word g) (λ x. cond (x == 0) closed_bit x) (λ x. close_view (close_answer x) g)
+close_row g = word_row (pins_word g) (λ x. cond (x == no_pins) closed_bit x) (λ x. close_view (close_answer x) g)
 
 -- begin: the actor hasn't the right. False exactly where it is held
 
@@ -123,7 +123,7 @@ begin_answer x = x == word.free
 
 abbrev pub begun : View → View
 begun v = record v {
-  build = record { right = 1; looked = 0; unborn = []; lost = []; settled = [] };
+  build = record { right = yes; looked = no; unborn = []; lost = []; settled = [] };
   own = record v.own { begun = v.own.begun + 1 };
 }
 
@@ -143,7 +143,7 @@ abbrev pub MayEnd : View → Type 0
 MayEnd v = Active v × Idle v × HasRight v.build
 
 abbrev pub ended : View → View
-ended v = record v { build = record v.build { right = 0; looked = 0 } }
+ended v = record v { build = record v.build { right = no; looked = no } }
 
 abbrev pub end_row : Row
 end_row = word_row right_word (λ x. word.free) (λ x. ended)

@@ -83,8 +83,8 @@ abbrev pub lost_bit : ℕ → ℕ
 lost_bit w = truth (is_lost w)
 
 -- what the opening and one actor add to the ground of an answer: how often the number was published; how often the
--- generation was closed; how often the name was lost with this line; what can have made the name Here; what can have made
--- a lose, and a discard, find nothing; the begins answered true, and the pins made on an open g
+-- generation was closed; how often the name was lost with this line; what can have made the name Here; what can have
+-- made a lose, and a discard, find nothing; the begins answered true, and the pins made on an open g
 abbrev pub had : Opening → Answer → ℕ
 had k (number n) = bit k.number n
 had k (closed g) = truth (k.closed g)

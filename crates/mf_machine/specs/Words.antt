@@ -1,5 +1,5 @@
 -- The numbers that stand in the words of a file and in a view.
-use Rattle.std.specs.Prelude.{◌≡◌, ℕ, ◌+◌, ◌-◌, ◌<◌, ◌≤◌, ◌==◌, ltb, leb, Bool}
+use Rattle.std.specs.Prelude.{◌≡◌, ℕ, ◌+◌, ◌-◌, ◌^◌, ◌≤◌, ◌==◌, ltb, leb, Bool}
 
 -- the words in their order: the published number, the right, the pins of each of the q generations, the names
 abbrev pub number_word : ℕ
@@ -54,8 +54,8 @@ held = 1
 abbrev pub closed_bit : ℕ
 closed_bit = 9223372036854775808
 
-abbrev pub IsOpenWord : ℕ → Type 0
-IsOpenWord x = x < closed_bit
+abbrev pub no_pins : ℕ
+no_pins = 0
 
 abbrev pub is_open : ℕ → Bool
 is_open x = ltb x closed_bit
@@ -70,6 +70,17 @@ number_of g = g + 1
 
 abbrev pub removed_of : ℕ → ℕ
 removed_of q = q + 1
+
+-- a mark of a view
+abbrev pub no : ℕ
+no = 0
+
+abbrev pub yes : ℕ
+yes = 1
+
+-- the share of the first actor
+abbrev pub whole_share : ℕ
+whole_share = 2 ^ 30
 
 -- a place of a view that may be empty: 0, or 1 more than what stands there
 abbrev pub vacant : ℕ

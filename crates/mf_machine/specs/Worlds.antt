@@ -1,5 +1,5 @@
 -- The words, slots and actors of a file in the order of a table, and what one row of the steps does to them.
-use Rattle.std.specs.Prelude.{◌≡◌, ℕ, ◌+◌, ◌*◌, ◌^◌, ◌<◌, ◌==◌, List, [], ◌∷◌, length, cond, not}
+use Rattle.std.specs.Prelude.{◌≡◌, ℕ, ◌+◌, ◌*◌, ◌<◌, ◌==◌, List, [], ◌∷◌, length, cond, not}
 use Rattle.std.specs.Prelude.{slice_index, slice_index_or, slice_set}
 use Rattle.mf_machine.specs.declared.view.Build.{Build}
 use Rattle.mf_machine.specs.declared.view.Changes.{Changes}
@@ -13,7 +13,7 @@ use Rattle.mf_machine.specs.Counts.{truth, those}
 use Rattle.mf_machine.specs.File.{File, Opening, State, Home, name_word}
 use Rattle.mf_machine.specs.File.Home.{away, empty}
 use Rattle.mf_machine.specs.Words as word
-use Rattle.mf_machine.specs.Words.{number_word, right_word, pins_word, closed_bit, is_here, vacant}
+use Rattle.mf_machine.specs.Words.{number_word, right_word, pins_word, closed_bit, is_here, no, whole_share, vacant}
 
 -- nothing made, nothing met, nothing begun, nothing seen
 abbrev pub no_changes : Changes
@@ -44,7 +44,7 @@ nothing_met = record {
 }
 
 abbrev pub nothing_built : Build
-nothing_built = record { right = 0; looked = 0; unborn = []; lost = []; settled = [] }
+nothing_built = record { right = no; looked = no; unborn = []; lost = []; settled = [] }
 
 abbrev pub nothing_seen : Seen
 nothing_seen = record { number = 0; shut = []; born = []; dropped = [] }
@@ -95,7 +95,7 @@ first_seen f k = record {
 }
 
 abbrev pub first_view : File → Opening → View
-first_view f k = fresh (2 ^ 30) [] (first_seen f k)
+first_view f k = fresh whole_share [] (first_seen f k)
 
 -- the words; the slot of each name; the actors; and what each has in its hand of the slot whose turn it holds
 pub record World : Type 0 where
@@ -126,7 +126,7 @@ read f w = record {
 
 -- each word and slot is there
 pub record Fits (f : File) (w : World) : Type 0 where
-  pub wide : length w.words ≡ f.stages + 2 + f.names
+  pub wide : length w.words ≡ name_word f f.names
   pub deep : length w.homes ≡ f.names
 
 -- the table as it is made from a file at rest, with the first actor

@@ -5,7 +5,7 @@ use Rattle.std.proofs.lemmas.Grind.{merely}
 use Rattle.mf_machine.specs.Actors.{on}
 use Rattle.mf_machine.specs.Rest as machine
 use Rattle.mf_machine.specs.Worlds.{World, Fits, Opens}
-use Rattle.mf_machine.proofs.Fitting.{rest_goes_on}
+use Rattle.mf_machine.proofs.Tells.{rest_goes_on}
 use Rattle.mf_machine.proofs.Openings.{opens}
 use Rattle.mf_places.specs.declared.losses.LoseLine.{LoseLine}
 use Rattle.mf_places.specs.Servers.{no_servers}

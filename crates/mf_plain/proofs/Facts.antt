@@ -10,6 +10,7 @@ use Rattle.mf_machine.specs.Actors.{PinHolds}
 use Rattle.mf_machine.specs.Counts.{times}
 use Rattle.mf_machine.specs.File.{File, IsLoseLine, HasCell, name_word}
 use Rattle.mf_machine.specs.File.Home.{keeps}
+use Rattle.mf_machine.specs.Answers as answers
 use Rattle.mf_machine.specs.Sums as sums
 use Rattle.mf_machine.specs.Worlds.{World, word_of, home_of, read}
 use Rattle.mf_machine.proofs.Pins.{few_pins}
@@ -46,7 +47,7 @@ module _ (f : Facts) (s : Stored) (v : View) (h : ∥ Holding f (world s v) ∥�
   pub open_at : (g : ℕ) → s.number ≡ g + 1 → g < stages f → word_of now (g + 2) ≤ 3221225472
   open_at g e l = known (word_of now (g + 2)) 3221225472 (λ r. let p = r.ruled.words.pins g l in let word = p.word in
       let few = few_pins (file f) f.opening (read (file f) now) g r.ruled in
-      dite (ℕ_discrete ((sums.tally f.opening (v ∷ [])).shuts g) 0) (λ z. omega arith)
+      dite (ℕ_discrete (sums.tally f.opening (v ∷ []) (answers.closed g)) 0) (λ z. omega arith)
       (λ n. let c = (p.low (omega arith)).0 in absurd (omega arith)))
 
   -- the holder of the right, which looked since its begin, looked at the present number

@@ -10,6 +10,7 @@ use Rattle.mf_machine.specs.Counts.{truth, bit}
 use Rattle.mf_machine.specs.File.{Holds, HasCell, name_word}
 use Rattle.mf_machine.specs.File.Home.{keeps, empty}
 use Rattle.mf_machine.specs.Rest as machine
+use Rattle.mf_machine.specs.Answers as answers
 use Rattle.mf_machine.specs.Sums as sums
 use Rattle.mf_machine.specs.Worlds.{World, word_of, read}
 use Rattle.mf_machine.proofs.Pins.{few_pins}
@@ -93,7 +94,7 @@ module _ (f : Facts) (s : Stored) (v : View) (long : length s.closed ≡ stages 
     number = facts.number_top f s v h;
     closed = λ g l e. passed g l (ap truth e);
     born = λ g l e n low b z. facts.never f s v h (λ r. r.ruled.words.born g l
-        (subst (λ x. 0 < (sums.tally f.opening (v ∷ [])).heard x) e r.ruled.words.number.heard) n low b (word_is n
+        (subst (λ x. 0 < sums.tally f.opening (v ∷ []) (answers.number x)) e r.ruled.words.number.heard) n low b (word_is n
         ∙ z));
     settled = λ n low. not_taken (r_of n);
     dropped = λ n low e g l b. is_true (get_or s.closed g false) (left n g low e l b);

@@ -79,7 +79,7 @@ impl Access for PlainAccess {
 
     fn probe(&mut self, name: Name) -> State {
         let state = self.state(name);
-        let known = Note::pick(&(name, state, &*self));
+        let note = Note::pick(&(name, state, &*self));
         append(
             &mut self.ledger,
             Entry::Chunk {
@@ -88,7 +88,7 @@ impl Access for PlainAccess {
                 answer: told(state),
             },
         );
-        self.known = known;
+        self.known = note;
         state
     }
 
@@ -108,9 +108,9 @@ impl Access for PlainAccess {
     }
 
     fn restore(&mut self, name: Name, bytes: Chunk) {
-        let n = place_of(&self.book, name);
+        let at = place_of(&self.book, name);
         let known = Note::pick(&(name, &*self));
-        self.names[n] = Rest::Here(bytes);
+        self.names[at] = Rest::Here(bytes);
         append(
             &mut self.ledger,
             Entry::Chunk {

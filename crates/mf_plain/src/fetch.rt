@@ -53,9 +53,9 @@ impl PlainAccess {
 impl Fetch for PlainAccess {
     fn get(&mut self, name: Name) -> Got {
         let got = self.got(name);
-        let known = Note::pick(&(name, &got, &*self));
+        let note = Note::pick(&(name, &got, &*self));
         enter_get(&mut self.ledger, name, &got);
-        self.known = known;
+        self.known = note;
         got
     }
 

@@ -7,6 +7,8 @@ mod calls;
 mod fetch;
 mod known;
 mod plain;
+#[cfg(test)]
+mod tests;
 
 pub use access::PlainAccess;
 pub use plain::Plain;

@@ -1,0 +1,73 @@
+ghost use Rattle.std.specs.Prelude.{◌≡◌};
+ghost use Rattle.mf_plain.specs.Whole.{actor_of};
+
+use crate::{Plain, PlainAccess};
+use mf_shape::{Shape, Stage};
+use mf_vault::{Access, Book, Losses, Pinned, Rest, Servers, Slot};
+use std::process::Abort;
+use std::test::Fail;
+
+const STAGES: [Stage; 2] = [
+    Stage {
+        width: 2,
+        parities: 2,
+        copies: 1,
+    },
+    Stage {
+        width: 4,
+        parities: 2,
+        copies: 0,
+    },
+];
+
+#[test]
+fn a_file_that_is_not_created_rests(rt: HostRuntime) -> Result<(), Fail> {
+    let alloc = rt.alloc();
+    let shape = Shape::new(alloc, &STAGES, 6)?;
+    let book = Book::new(alloc, &shape, &[1, 2], 1, 0, 4)?;
+    let plain = Plain::new(alloc, book, b"abcd")?;
+    assert_eq!(rt;
+        (plain.published(), plain.born(), plain.book().count()),
+        (0, 0, 14)
+    );
+    for g in 0..plain.book().stages() {
+        assert!(rt; !plain.closed(g));
+    }
+    for n in 0..plain.book().count() {
+        let name = plain.book().name(n);
+        assert!(rt; matches!(plain.rest(name)?, Rest::Unborn), "{name:?}");
+    }
+    Ok(())
+}
+
+// What the only actor of a file that isn't created is told.
+fn assert_absent(rt: &impl Abort, access: &mut PlainAccess)
+    requires right { (actor_of access.old).view.build.right ≡ 0 }
+    requires slot { (actor_of access.old).view.hold ≡ 0 }
+{
+    assert_eq!(rt; (access.age(), access.ledger().len()), (0, 0));
+    access.cut_off(Servers { bits: 5 });
+    assert_eq!(rt; access.pin(Slot::Hold), Pinned::Absent);
+    assert_eq!(rt;
+        (access.pinned(Slot::Hold), access.pinned(Slot::Work)),
+        (None, None)
+    );
+}
+
+#[test]
+fn the_only_actor_finds_a_file_absent(rt: HostRuntime) -> Result<(), Fail> {
+    let alloc = rt.alloc();
+    let shape = Shape::new(alloc, &STAGES, 6)?;
+    let book = Book::new(alloc, &shape, &[1, 2], 1, 0, 4)?;
+    let plain = Plain::new(alloc, book, b"abcd")?;
+    let losses = Losses::new(alloc);
+    let mut access = PlainAccess::new(alloc, plain, 7, &losses);
+    access.reserve(3)?;
+    if access.begin() {
+        access.end();
+    }
+    assert_absent(&rt, &mut access);
+    let (plain, ledger) = access.finish();
+    assert_eq!(rt; (plain.published(), plain.born(), ledger.len()), (0, 0, 0));
+    Ok(())
+}

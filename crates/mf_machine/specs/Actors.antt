@@ -26,14 +26,16 @@ on g hold work = has g hold + has g work
 abbrev pub live : ℕ → View → ℕ
 live g v = on g v.hold v.work
 
+-- the place of a slot
 abbrev pub slot_of : Slot → View → ℕ
 slot_of Hold v = v.hold
 slot_of Work v = v.work
 
--- the slot is free; it is pinned on g
+-- the slot is free
 abbrev pub IsFreeSlot : Slot → View → Type 0
 IsFreeSlot slot v = slot_of slot v ≡ vacant
 
+-- it is pinned on g
 abbrev pub IsPinnedOn : ℕ → Slot → View → Type 0
 IsPinnedOn g slot v = Fills (slot_of slot v) g
 
@@ -41,13 +43,15 @@ IsPinnedOn g slot v = Fills (slot_of slot v) g
 abbrev pub Active : View → Type 0
 Active v = 0 < v.share
 
--- it has the right; it hasn't; it has looked at the published number since its begin
+-- it has the right
 abbrev pub HasRight : Build → Type 0
 HasRight b = b.right ≡ yes
 
+-- it hasn't
 abbrev pub LacksRight : Build → Type 0
 LacksRight b = b.right ≡ no
 
+-- it has looked at the published number since its begin
 abbrev pub HasLooked : Build → Type 0
 HasLooked b = b.looked ≡ yes
 
@@ -59,25 +63,31 @@ LastLooked last number = Fills last number
 abbrev pub SawShut : ℕ → View → Type 0
 SawShut g v = Among g v.seen.shut
 
+-- g wasn't answered Closed to it
 abbrev pub NeverSawShut : ℕ → View → Type 0
 NeverSawShut g v = times g v.seen.shut ≡ 0
 
--- it is inside a get, birth, retake, lose or drop of the name; or its drop of the name is between its two tries
+-- it is inside a get of the name
 abbrev pub IsGetting : Inside → ℕ → Type 0
 IsGetting i n = Fills i.getting n
 
+-- it is inside a birth of the name
 abbrev pub IsBearing : Inside → ℕ → Type 0
 IsBearing i n = Fills i.bearing n
 
+-- it is inside a retake of the name
 abbrev pub IsRetaking : Inside → ℕ → Type 0
 IsRetaking i n = Fills i.retaking n
 
+-- it is inside a lose of the name
 abbrev pub IsLosing : Inside → ℕ → Type 0
 IsLosing i n = Fills i.losing n
 
+-- it is inside a drop of the name
 abbrev pub IsDropping : Inside → ℕ → Type 0
 IsDropping i n = Fills i.dropping n
 
+-- its drop of the name is between its two tries
 abbrev pub IsTrying : Inside → ℕ → Type 0
 IsTrying i n = Fills i.trying n
 

@@ -107,34 +107,41 @@ abbrev pub pin_said : Bool → ℕ → Answer
 pin_said true g = opened g
 pin_said false g = missed g
 
+-- the answer of a close, with the pins of its own on g
 abbrev pub close_said : Closed → (g own : ℕ) → Answer
 close_said closing.Done g own = closed g
 close_said (closing.Pins n) g own = pinned g n own
 close_said closing.Already g own = already g
 
+-- the answer of a begin
 abbrev pub begin_said : Bool → Answer
 begin_said true = begun
 begin_said false = refused
 
+-- the answer of a see; Away is none
 abbrev pub see_said : Told → ℕ → Option Answer
 see_said told.Unborn n = Some (unborn n)
 see_said told.Here n = Some (here n)
 see_said (told.Lost line) n = Some (lost n line)
 see_said (told.Away server) n = None
 
+-- the answer of a take; Again is none
 abbrev pub take_said : Take → ℕ → Option Answer
 take_said chunk n = Some (here n)
 take_said (gone line) n = Some (lost n line)
 take_said again n = None
 
+-- the answer of a lose, where nothing changes
 abbrev pub lose_said : LoseStep → ℕ → Option Answer
 lose_said lose.Nothing n = Some (not_lost n)
 lose_said a n = None
 
+-- the answer of the first try of a drop, where nothing changes
 abbrev pub drop_said : Drop → ℕ → Option Answer
 drop_said nothing n = Some (not_dropped n)
 drop_said a n = None
 
+-- the answer of the second try
 abbrev pub drop_again_said : Bool → ℕ → Answer
 drop_again_said true n = dropped n
 drop_again_said false n = not_dropped n

@@ -52,11 +52,12 @@ abbrev pub those : (ℕ → Bool) → ℕ → List ℕ
 those p zero = []
 those p (suc n) = cond (p n) (n ∷ those p n) (those p n)
 
--- the first c entries of each number, counted from the end, and the others
+-- the first c entries of each number, counted from the end
 abbrev pub up_to : ℕ → List ℕ → List ℕ
 up_to c [] = []
 up_to c (x ∷ xs) = cond (nat_lt (times x xs) c) (x ∷ up_to c xs) (up_to c xs)
 
+-- the others
 abbrev pub beyond : ℕ → List ℕ → List ℕ
 beyond c [] = []
 beyond c (x ∷ xs) = cond (nat_lt (times x xs) c) (beyond c xs) (x ∷ beyond c xs)

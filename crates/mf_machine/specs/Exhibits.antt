@@ -112,6 +112,7 @@ pub record Exhibits (f : File) (w : World) (ms : List Move) : Type 0 where
   pub names : ((n : ℕ) × (n < f.names) × ((read f (run f w ms)).name n ≡ word.here))
       × ((n : ℕ) × (n < f.names) × ((read f (run f w ms)).name n ≡ word.dropped))
 
+-- some run in which all this occurs
 abbrev pub SomeRun : Type 0
 SomeRun = (f : File) × (k : Opening) × (first : World) × (ms : List Move)
     × Rest f k × Opens f k first × Runs f first ms × Exhibits f first ms

@@ -23,6 +23,7 @@ pub record File : Type 0 where
 abbrev pub name_word : File → ℕ → ℕ
 name_word f n = nth_name_word f.stages n
 
+-- the number of the file once it is removed
 abbrev pub removed : File → ℕ
 removed f = removed_of f.stages
 

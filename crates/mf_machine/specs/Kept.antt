@@ -108,19 +108,23 @@ abbrev pub NumberGiven : Opening → State → Type 0
 NumberGiven k s = ((s.number ≡ k.number) × ((m : ℕ) → total (publishings m) s.views ≡ 0))
     ⊎ Stands (publishings s.number) s
 
+-- no published number is above the file's
 abbrev pub Greatest : State → ℕ → Type 0
 Greatest s m = Stands (publishings m) s → m ≤ s.number
 
--- no publishing, closing, put or drop stands twice, and none of it was so at the opening
+-- no publishing stands twice, and none of it was so at the opening
 abbrev pub PublishedOnce : Opening → State → ℕ → Type 0
 PublishedOnce k s m = Stands (publishings m) s → (total (publishings m) s.views ≡ 1) × (k.number < m)
 
+-- no closing, either
 abbrev pub ClosedOnce : Opening → State → ℕ → Type 0
 ClosedOnce k s g = Stands (closings g) s → (total (closings g) s.views ≡ 1) × (k.closed g ≢ true)
 
+-- no put, either
 abbrev pub PutOnce : Opening → State → ℕ → Type 0
 PutOnce k s n = Stands (puts n) s → (total (puts n) s.views ≡ 1) × (k.name n ≡ word.unborn)
 
+-- and no drop
 abbrev pub DroppedOnce : Opening → State → ℕ → Type 0
 DroppedOnce k s n = Stands (drops n) s → (total (drops n) s.views ≡ 1) × (k.name n ≢ word.dropped)
 
@@ -137,12 +141,12 @@ UnbornStill k s n = ((s.name n ≡ word.unborn) ⊎ Stands (in_birth n) s)
 abbrev pub DroppedBy : Opening → State → ℕ → Type 0
 DroppedBy k s n = (s.name n ≡ word.dropped) ↔ ((k.name n ≡ word.dropped) ⊎ Stands (drops n) s)
 
--- where a name isn't Dropped, its losses, with the opening's, are one more than its restores where it is Lost or Taken
--- in a retake, and else as many
+-- where a name is Lost or Taken in a retake, its losses, with the opening's, are one more than its restores
 abbrev pub LostOnceMore : Opening → State → ℕ → Type 0
 LostOnceMore k s n = s.name n ≢ word.dropped → IsLost (s.name n) ⊎ Stands (in_retake n) s
     → total (loses n) s.views + lost_bit (k.name n) ≡ total (restores n) s.views + 1
 
+-- and where it isn't, nor Dropped, they are as many
 abbrev pub LostAsOften : Opening → State → ℕ → Type 0
 LostAsOften k s n = s.name n ≢ word.dropped → s.name n < word.lost 0 → total (in_retake n) s.views ≡ 0
     → total (loses n) s.views + lost_bit (k.name n) ≡ total (restores n) s.views

@@ -34,6 +34,7 @@ abbrev pub Stays : File → State → ℕ → Type 0
 Stays f s n = ((s.name n ≡ word.here) ⊎ ((s.name n ≡ word.taken) ⊎ IsLost (s.name n)))
     × (s.name n ≢ word.unborn) × (s.name n ≢ word.dropped) × (s.name n ≡ word.here → HasCell f n (s.home n))
 
+-- so it is of each name of each pinned generation
 abbrev pub PinnedStays : Type 0
 PinnedStays = (f : File) (k : Opening) (w : World) → Reached f k w → (j : ℕ) (v : View) → IsActor (read f w) j v
     → (g : ℕ) → 0 < live g v → (n : ℕ) → n < f.names → Holds f g n → Stays f (read f w) n
@@ -63,6 +64,7 @@ pub record GoesOn (s s' : Seen) (m m' : Made) : Type 0 where
   pub dropped : (n : ℕ) → times n s.dropped ≤ times n s'.dropped
   pub made : (a : Answer) → makes a m ≤ makes a m'
 
+-- the same of two views
 abbrev pub Has : (v u : View) → Type 0
 Has v u = GoesOn v.seen u.seen v.made u.made
 
@@ -117,6 +119,7 @@ abbrev pub met_sum : (Met → ℕ) → List Met → ℕ
 met_sum h [] = 0
 met_sum h (m ∷ ms) = h m + met_sum h ms
 
+-- h of all Mets of an actor
 abbrev pub mets_of : (Met → ℕ) → View → ℕ
 mets_of h v = h v.own + met_sum h v.gone
 
@@ -193,6 +196,7 @@ pub record LeadsBack (f : File) (k : Opening) (s : State) (j : ℕ) (v : View) :
   pub removed : (m : Met) → IsMetOf v m → 0 < often (number (removed f)) m
       → (k.number ≡ removed f) ⊎ Someone s (publishings (removed f))
 
+-- so it is of each actor in each reached state
 abbrev pub CausesLeadBack : Type 0
 CausesLeadBack = (f : File) (k : Opening) (w : World) → Reached f k w → (j : ℕ) (v : View) → IsActor (read f w) j v
     → LeadsBack f k (read f w) j v
@@ -272,6 +276,7 @@ pub record MeetsFit (f : File) (w : World) (id : ℕ) : Type 0 where
   pub retake : (n : ℕ) → May f w (by id (move.retake n)) → IsLost ((read f w).name n)
   pub returns : (n : ℕ) → Active (actor w id) → HasTaken (actor w id) n → (read f w).name n ≡ word.taken
 
+-- so it is in each reached state
 abbrev pub AnswersFit : Type 0
 AnswersFit = (f : File) (k : Opening) (w : World) → Reached f k w → (id : ℕ) → MeetsFit f w id
 

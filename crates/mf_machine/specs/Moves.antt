@@ -41,6 +41,7 @@ pub record Move : Type 0 where
   pub who : ℕ
   pub does : Deed
 
+-- the actor does so
 abbrev pub by : ℕ → Deed → Move
 by id d = record { who = id; does = d }
 
@@ -69,6 +70,7 @@ MayDo f w id (exchange h) = MayExchange (actor w id) × (h ≢ away)
 MayDo f w id split = MaySplit (actor w id)
 MayDo f w id (join other) = (other ≢ id) × MayJoin (actor w id) (actor w other)
 
+-- where a move may happen
 abbrev pub May : File → World → Move → Type 0
 May f w m = MayDo f w m.who m.does
 
@@ -101,6 +103,7 @@ done f w id (join other) = record w {
   views = slice_set (slice_set w.views id (row.joined (actor w id) (actor w other))) other spent_view;
 }
 
+-- the world after a move
 abbrev pub after : File → World → Move → World
 after f w m = done f w m.who m.does
 
@@ -109,6 +112,7 @@ abbrev pub Runs : File → World → List Move → Type 0
 Runs f w [] = Unit {0}
 Runs f w (m ∷ ms) = May f w m × Runs f (after f w m) ms
 
+-- the world after a list of moves
 abbrev pub run : File → World → List Move → World
 run f w [] = w
 run f w (m ∷ ms) = run f (after f w m) ms

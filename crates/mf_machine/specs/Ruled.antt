@@ -136,9 +136,11 @@ pub record Sits (f : File) (k : Opening) (number : ℕ) (name : ℕ → ℕ) (a 
   pub own : MetIs a v.own
   pub gone : (i : ℕ) (m : Met) → get_elem? v.gone i ≡ some m → MetIs a m
 
+-- the same in a state
 abbrev pub SitsIn : File → Opening → State → View → Type 0
 SitsIn f k s v = Sits f k s.number s.name (tally k s.views) v
 
+-- the rule: the words and slots, and each actor
 pub record Ruled (f : File) (k : Opening) (s : State) : Type 0 where
   pub words : Words f k s
   pub each : (j : ℕ) (v : View) → get_elem? s.views j ≡ some v → SitsIn f k s v

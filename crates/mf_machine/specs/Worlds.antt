@@ -15,13 +15,15 @@ use Rattle.mf_machine.specs.File.Home.{away, empty}
 use Rattle.mf_machine.specs.Words as word
 use Rattle.mf_machine.specs.Words.{number_word, right_word, pins_word, closed_bit, is_here, no, whole_share, vacant}
 
--- nothing made, nothing met, nothing begun, nothing seen
+-- no change of a name
 abbrev pub no_changes : Changes
 no_changes = record { put = []; lost = []; restored = []; dropped = [] }
 
+-- nothing made
 abbrev pub nothing_made : Made
 nothing_made = record { numbers = []; closings = []; changes = no_changes }
 
+-- nothing met
 abbrev pub nothing_met : Met
 nothing_met = record {
   numbers = [];
@@ -43,12 +45,15 @@ nothing_met = record {
   not_dropped = [];
 }
 
+-- nothing begun
 abbrev pub nothing_built : Build
 nothing_built = record { right = no; looked = no; unborn = []; lost = []; settled = [] }
 
+-- nothing seen
 abbrev pub nothing_seen : Seen
 nothing_seen = record { number = 0; shut = []; born = []; dropped = [] }
 
+-- inside of nothing
 abbrev pub outside : Inside
 outside = record {
   getting = vacant;
@@ -61,6 +66,7 @@ outside = record {
   tried = 0;
 }
 
+-- no step yet
 abbrev pub no_step : Step
 no_step = record { count = 0; word = 0; met = 0 }
 
@@ -94,6 +100,7 @@ first_seen f k = record {
   dropped = those (λ n. k.name n == word.dropped) f.names;
 }
 
+-- the first actor
 abbrev pub first_view : File → Opening → View
 first_view f k = fresh whole_share [] (first_seen f k)
 
@@ -104,12 +111,15 @@ pub record World : Type 0 where
   pub views : List View
   pub hands : ℕ → Home
 
+-- the value of the word i
 abbrev pub word_of : World → ℕ → ℕ
 word_of w i = slice_index w.words i
 
+-- the slot of the name
 abbrev pub home_of : World → ℕ → Home
 home_of w n = slice_index_or w.homes n empty
 
+-- the actor with this number
 abbrev pub actor : World → ℕ → View
 actor w id = slice_index_or w.views id spent_view
 
@@ -160,11 +170,11 @@ pub record Row : Type 0 where
   pub view : ℕ → View → View
   pub note : Note
 
--- a row that leaves the slots; one that takes the slot of a name which is Here; one that takes it; and one that gives
--- it back, with the name's new word
+-- a row that leaves the slots
 abbrev pub word_row : ℕ → (ℕ → ℕ) → (ℕ → View → View) → Row
 word_row i becomes view = record { word = i; becomes = becomes; slot = λ x. stays; view = view; note = meets }
 
+-- one that takes the slot of a name which is Here
 abbrev pub here_row : File → ℕ → (ℕ → View → View) → Row
 here_row f n view = record {
   word = name_word f n;
@@ -174,6 +184,7 @@ here_row f n view = record {
   note = meets;
 }
 
+-- one that takes the slot
 abbrev pub turn_row : File → ℕ → (View → View) → Row
 turn_row f n view = record {
   word = name_word f n;
@@ -183,6 +194,7 @@ turn_row f n view = record {
   note = meets;
 }
 
+-- one that gives it back, with the name's new word
 abbrev pub back_row : File → ℕ → ℕ → (View → View) → Note → Row
 back_row f n x view note = record {
   word = name_word f n;
@@ -196,20 +208,23 @@ back_row f n x view note = record {
 abbrev pub counted : ℕ → ℕ → View → View
 counted i x v = record v { step = record { count = v.step.count + 1; word = i; met = x } }
 
+-- what the note of a row leaves in the view
 abbrev pub noted : Note → ℕ → ℕ → View → View
 noted meets i x v = counted i x v
 noted steps i x v = record v { step = record v.step { count = v.step.count + 1 } }
 noted silent i x v = v
 
--- the slots, and what is in the hands
+-- the hands, with h in this actor's
 abbrev pub put : (ℕ → Home) → ℕ → Home → ℕ → Home
 put hands id h j = cond (j == id) h (hands j)
 
+-- the slots after a turn
 abbrev pub homes_after : Turn → World → ℕ → List Home
 homes_after stays w id = w.homes
 homes_after (comes_out n) w id = slice_set w.homes n away
 homes_after (goes_back n) w id = slice_set w.homes n (w.hands id)
 
+-- the hands after it
 abbrev pub hands_after : Turn → World → ℕ → ℕ → Home
 hands_after stays w id = w.hands
 hands_after (comes_out n) w id = put w.hands id (home_of w n)
@@ -224,5 +239,6 @@ acted r x w id = record {
   hands = hands_after (r.slot x) w id;
 }
 
+-- the same, with the value that the word has
 abbrev pub acts : Row → World → ℕ → World
 acts r w id = acted r (word_of w r.word) w id

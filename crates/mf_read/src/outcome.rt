@@ -56,8 +56,8 @@ pub enum ReadOutcome {
         stripe: u32,
         lost: LostNames,
     },
-    /// A stripe of generation `g` can't be had while a server can't be reached: the first chunk that
-    /// was asked for there.
+    /// A stripe of generation `g` can't be had while a server can't be reached: the first chunk
+    /// that was asked for there.
     Unreachable {
         g: u32,
         stripe: u32,

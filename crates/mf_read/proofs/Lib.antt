@@ -1,0 +1,14 @@
+pub mod Turns
+pub mod Asked
+pub mod Props
+pub mod Readers
+pub mod Told
+pub mod Parted
+pub mod Sinces
+pub mod Grouped
+pub mod Gathered
+pub mod Entries
+pub mod Shortage
+pub mod Stripewise
+pub mod OnceRead
+pub mod OneRead

@@ -1,0 +1,70 @@
+//! All data of a stripe, gathered through an access.
+ghost use Rattle.std.specs.Prelude.{◌≡◌, ◌<◌, ◌≤◌, length, None};
+ghost use Rattle.mf_read.specs.Gathers.{Gathers, IsOfFamily};
+ghost use Rattle.mf_read.specs.Groups.{IsReader};
+
+use crate::asker::{Asker, Begun};
+use crate::asking::stage;
+use mf_check::Family;
+use mf_decode::{Gathered, gather};
+use mf_vault::Fetch;
+use std::alloc::Global;
+use std::marker::{Brand, PhantomData};
+
+// All data of the asker's stripe.
+fn gather_by<'a, A: Fetch, K: Begun>(
+    alloc: Global,
+    asker: &mut Asker<'a, A, K>,
+    family: &Family,
+) -> Gathered
+    requires start { K.start ≡ A.actor asker.old.access.now }
+    requires going { asker.old.stopped ≡ None }
+    requires family { IsOfFamily family.now (A.actor asker.old.access.now).facts.book }
+    ensures gathers { Gathers asker.old.g asker.old.j result
+        (A.actor asker.old.access.now) (A.actor asker.new.access.now) }
+    ensures same_reference { asker.new.access.ghost_name ≡ asker.old.access.ghost_name }
+{
+    let stage = stage(&*asker.access, asker.g);
+    let count = asker.access.book().pieces(asker.g, asker.j);
+    let chunk = asker.access.book().chunk();
+    let points = &family.points()[..stage.parities as usize];
+    gather(alloc, asker, points, stage.width, count, chunk)
+}
+
+// All data of stripe j of generation g, by an asking that begins here.
+fn gather_from<A: Fetch, K: Begun>(
+    alloc: Global,
+    access: &mut A,
+    family: &Family,
+    g: u32,
+    j: u32,
+) -> Gathered
+    requires start { K.start ≡ A.actor access.old }
+    requires family { IsOfFamily family.now (A.actor access.old).facts.book }
+    requires reader { IsReader g j (A.actor access.old) }
+    ensures { Gathers g j result (A.actor access.old) (A.actor access.new) }
+{
+    let mut asker = Asker {
+        access,
+        g,
+        j,
+        stopped: None,
+        start: PhantomData::<K>,
+    };
+    gather_by(alloc, &mut asker, family)
+}
+
+// All data of stripe j of generation g.
+pub(crate) fn gather_stripe<A: Fetch>(
+    alloc: Global,
+    access: &mut A,
+    family: &Family,
+    g: u32,
+    j: u32,
+) -> Gathered
+    requires family { IsOfFamily family.now (A.actor access.old).facts.book }
+    requires reader { IsReader g j (A.actor access.old) }
+    ensures { Gathers g j result (A.actor access.old) (A.actor access.new) }
+{
+    gather_from::<A, Brand>(alloc, access, family, g, j)
+}

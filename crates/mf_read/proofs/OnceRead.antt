@@ -1,13 +1,12 @@
 -- Where the whole state is told, gets in the order of an asking are one list.
-use Rattle.std.proofs.Common.{◌≡◌, ◌≢◌, ℕ, zero, suc, ◌+◌, ◌-◌, ◌*◌, ◌<◌, ◌≤◌, ◌⊎◌, min, List, [], ◌∷◌, ◌++◌, length}
-use Rattle.std.proofs.Common.{Some, refl, sym, ap, ◌∙◌, subst, append_assoc, append-nil, inl, inr, ⊎_elim, arith}
+use Rattle.std.proofs.Common.{◌≡◌, ◌≢◌, ℕ, zero, suc, ◌<◌, ◌≤◌, List, [], ◌∷◌, ◌++◌}
+use Rattle.std.proofs.Common.{Some, refl, sym, ap, ◌∙◌, subst, append_assoc, append-nil, ⊎_elim, arith}
 use Rattle.std.proofs.lemmas.Bool.{cases_lt}
 use Rattle.mf_machine.specs.Moves.{run}
 use Rattle.mf_machine.specs.Worlds.{World}
 use Rattle.mf_places.specs.declared.Name.{Name}
 use Rattle.mf_places.specs.Facts.{BookFacts}
 use Rattle.mf_places.specs.Generations.{pieces_at, parities_of_stripe}
-use Rattle.mf_vault.specs.declared.answers.Got.{Got}
 use Rattle.mf_vault.specs.declared.answers.Got.TheVariants as got
 use Rattle.mf_vault.specs.Facts.{Facts, file}
 use Rattle.mf_vault.specs.Actor.{Actor, Call, get, did, moves, onward}

@@ -1,5 +1,5 @@
 -- A read in a state that is told has one result.
-use Rattle.std.proofs.Common.{◌≡◌, ◌≢◌, ℕ, ◌+◌, ◌-◌, ◌*◌, ◌<◌, ◌≤◌, ◌⊎◌, min, List, [], ◌∷◌, ◌++◌, length, Some, refl}
+use Rattle.std.proofs.Common.{◌≡◌, ◌≢◌, ℕ, ◌+◌, ◌*◌, ◌<◌, ◌≤◌, ◌⊎◌, List, [], ◌∷◌, ◌++◌, length, refl}
 use Rattle.std.proofs.Common.{sym, ap, ◌∙◌, subst, append-nil, inl, inr, ⊎_elim, arith}
 use Rattle.std.proofs.lemmas.Bool.{cases_lt}
 use Rattle.std.proofs.lemmas.Grind.{div_ceil_times}
@@ -7,23 +7,21 @@ use Rattle.std.proofs.Common.{mul-le-mul_right}
 use Rattle.std.specs.declared.alloc.Global.{Global}
 use Rattle.std.specs.declared.vec.Vec.{Vec}
 use Rattle.mf_machine.specs.declared.answer.Slot.TheVariants.{Work}
-use Rattle.mf_machine.specs.Worlds.{World}
 use Rattle.mf_shape.specs.Stages.{width_at}
 use Rattle.mf_places.specs.declared.Name.{Name}
 use Rattle.mf_places.specs.Facts.{BookFacts, chunks_of}
-use Rattle.mf_places.specs.Generations.{pieces_of}
 use Rattle.mf_vault.specs.declared.answers.Pinned.{Pinned}
 use Rattle.mf_vault.specs.declared.answers.Pinned.TheVariants as pinned
 use Rattle.mf_vault.specs.Facts.{Facts}
 use Rattle.mf_vault.specs.Actor.{Actor, Call, pin, unpin, did}
-use Rattle.mf_vault.specs.Licence.{Does, did_all}
+use Rattle.mf_vault.specs.Licence.{did_all}
 use Rattle.mf_vault.proofs.Once.{one_answer}
 use Rattle.mf_read.specs.declared.outcome.ReadOutcome.{ReadOutcome}
 use Rattle.mf_read.specs.declared.outcome.ReadOutcome.TheVariants.{Bytes, Absent, Removed, DataLost, Unreachable}
 use Rattle.mf_read.specs.declared.outcome.ReadOutcome.TheVariants.{Memory}
-use Rattle.mf_read.specs.Asking.{Ask, here_in, lost_in, away_in, IsShort, gets}
+use Rattle.mf_read.specs.Asking.{Ask, here_in, IsShort, gets}
 use Rattle.mf_read.specs.Laws.{IsSame, OneResult}
-use Rattle.mf_read.specs.Reading.{AreServed, IsEnd, IsReadOf, IsThrough, IsRead, Reads, bears, stripes}
+use Rattle.mf_read.specs.Reading.{AreServed, IsReadOf, IsThrough, IsRead, bears, stripes}
 use Rattle.mf_read.specs.Steps.{IsShortOf}
 use Rattle.mf_read.proofs.Asked.{gets_append}
 use Rattle.mf_read.proofs.OnceRead.{Okay, okay, first_goes, others_okay, okay_front, Tells, tells_after, same_served}

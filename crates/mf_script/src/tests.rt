@@ -1,9 +1,4 @@
-use crate::contents::content_bytes;
-use crate::faults::Kind;
-use crate::kinds::{LimitName, LineFault, LineKind};
-use crate::reading::read_draft;
-use crate::script::{print_script, read_script};
-use crate::scripts::{Act, Item};
+use crate::{Act, Item, Kind, LimitName, content_bytes, print_script, read_script};
 use mf_check::FamilyFault;
 use mf_places::Servers;
 use mf_shape::ShapeFault;
@@ -27,58 +22,154 @@ const LONG_FRONT: &[u8] =
 
 const LONG_BACK: &[u8] = b"\nphase\nclient\ncreate a\nread a\nend";
 
-// The number of a line of the script, what stands in its place, and the fault of that line.
-static FAULTS: [(u32, &[u8], LineKind); 34] = [
-    (1, b"morph 3", LineKind::Header),
-    (1, b"morph\t1", LineKind::Text),
-    (2, b"servers 06", LineKind::Number),
-    (2, b"servers 18446744073709551616", LineKind::Number),
-    (2, b"servers 4294967296", LineKind::Limit(LimitName::Number)),
-    (3, b"chunk 0", LineKind::Limit(LimitName::Chunk)),
-    (4, b"points 1 2 3 4 5", LineKind::Limit(LimitName::Points)),
-    (4, b"points 1 256", LineKind::Limit(LimitName::Point)),
-    (4, b"points", LineKind::Arity),
-    (5, b"stage 2 2", LineKind::Arity),
-    (7, b"policy 0", LineKind::Unknown),
-    (7, b"file A text x", LineKind::Limit(LimitName::Name)),
+// The number of a line of the script, what stands in its place, and the text of that line's fault: one row for each
+// kind of fault and each kind of line that can have it, and for each pair of kinds of which the first is told.
+static FAULTS: [(u32, &[u8], &[u8]); 141] = [
+    (1, b"morph\t1", b"text"),
+    (2, b"servers\t6", b"text"),
+    (3, b"chunk 1\x7f", b"text"),
+    (4, b"points 1\x80", b"text"),
+    (5, b"stage 2 2\r 1", b"text"),
+    (7, b"file a text \x00", b"text"),
+    (8, b"phase\x1f", b"text"),
+    (9, b"\xffclient", b"text"),
+    (10, b"create\ta", b"text"),
+    (11, b"read a\t", b"text"),
+    (12, b"end\t", b"text"),
+    (7, b"policy\t0", b"text"),
+    (1, b"morph 3", b"header"),
+    (1, b"morph", b"header"),
+    (1, b"morph 1 ", b"header"),
+    (1, b"servers 6", b"header"),
+    (1, b"", b"header"),
+    (1, b"end", b"header"),
+    (2, b"server 6", b"unknown"),
+    (2, b"serverss 6", b"unknown"),
+    (3, b"", b"unknown"),
+    (3, b" chunk 1", b"unknown"),
+    (7, b"policy 0", b"unknown"),
+    (7, b"file a blob x", b"unknown"),
+    (7, b"file a  x", b"unknown"),
+    (7, b"file A blob", b"unknown"),
+    (8, b"tick 1", b"unknown"),
+    (10, b"client", b"unknown"),
+    (10, b"client 1", b"unknown"),
+    (10, b"hold a", b"unknown"),
+    (11, b"rea", b"unknown"),
+    (11, b"reads a", b"unknown"),
+    (11, b"lose 1", b"unknown"),
+    (12, b"dump a", b"unknown"),
+    (2, b"servers", b"arity"),
+    (2, b"servers 6 x", b"arity"),
+    (3, b"chunk", b"arity"),
+    (3, b"chunk 0 0", b"arity"),
+    (4, b"points", b"arity"),
+    (5, b"stage", b"arity"),
+    (5, b"stage 2 x", b"arity"),
+    (5, b"stage 2 2 1 0", b"arity"),
+    (7, b"file", b"arity"),
+    (7, b"file a", b"arity"),
+    (7, b"file A", b"arity"),
+    (7, b"file a empty ", b"arity"),
+    (7, b"file a empty x", b"arity"),
+    (7, b"file a text", b"arity"),
+    (7, b"file a text ", b"arity"),
+    (7, b"file a hex", b"arity"),
+    (7, b"file a hex 61 62", b"arity"),
+    (7, b"file a pattern 1", b"arity"),
+    (7, b"file a pattern 1 0 0", b"arity"),
+    (8, b"phase ", b"arity"),
+    (8, b"phase 1", b"arity"),
+    (9, b"client 1", b"arity"),
+    (9, b"morph", b"arity"),
+    (9, b"morph 1 1", b"arity"),
+    (10, b"create", b"arity"),
+    (10, b"create  a", b"arity"),
+    (10, b"create a b", b"arity"),
+    (11, b"read", b"arity"),
+    (11, b"read b a", b"arity"),
+    (11, b"read a without 1", b"arity"),
+    (12, b"end 1", b"arity"),
+    (12, b"end ", b"arity"),
+    (2, b"servers 06", b"number"),
+    (2, b"servers x", b"number"),
+    (2, b"servers ", b"number"),
+    (2, b"servers +6", b"number"),
+    (2, b"servers 18446744073709551616", b"number"),
+    (3, b"chunk x", b"number"),
+    (3, b"chunk -1", b"number"),
+    (4, b"points ", b"number"),
+    (4, b"points 256 x", b"number"),
+    (4, b"points 1 2 3 4 5 6 x", b"number"),
+    (5, b"stage x 2 1", b"number"),
+    (5, b"stage 4294967296 x 1", b"number"),
+    (5, b"stage 2 2 ", b"number"),
+    (7, b"file a hex ", b"number"),
+    (7, b"file a hex 6", b"number"),
+    (7, b"file a hex 6G", b"number"),
+    (7, b"file A hex 6", b"number"),
+    (7, b"file a pattern x 0", b"number"),
+    (7, b"file a pattern 4294967296 x", b"number"),
+    (2, b"servers 4294967296", b"limit number"),
+    (2, b"servers 18446744073709551615", b"limit number"),
+    (3, b"chunk 4294967296", b"limit number"),
+    (3, b"chunk 0", b"limit chunk"),
+    (3, b"chunk 65537", b"limit chunk"),
+    (4, b"points 4294967296 2 3 4 5", b"limit number"),
+    (4, b"points 1 2 3 4 256", b"limit point"),
+    (4, b"points 1 256", b"limit point"),
+    (4, b"points 1 2 3 4 5", b"limit points"),
+    (5, b"stage 4294967296 2 1", b"limit number"),
+    (5, b"stage 2 4294967296 1", b"limit number"),
+    (5, b"stage 2 2 4294967296", b"limit number"),
+    (7, b"file A empty", b"limit name"),
+    (7, b"file  empty", b"limit name"),
+    (7, b"file A text x", b"limit name"),
+    (7, b"file A hex 61", b"limit name"),
+    (7, b"file A pattern 1 251", b"limit name"),
     (
         7,
         b"file aaaaaaaaaaaaaaaaaaaaaaaaaaaaaaaaa text x",
-        LineKind::Limit(LimitName::Name),
+        b"limit name",
     ),
-    (7, b"file a text ", LineKind::Arity),
-    (7, b"file a hex ", LineKind::Number),
-    (7, b"file a hex", LineKind::Arity),
-    (7, b"file a blob x", LineKind::Unknown),
-    (7, b"file a", LineKind::Arity),
-    (
-        7,
-        b"file a pattern 10 251",
-        LineKind::Limit(LimitName::Pattern),
-    ),
-    (
-        7,
-        b"file a pattern 1048577 0",
-        LineKind::Limit(LimitName::Length),
-    ),
-    (
-        7,
-        b"file a pattern 1025 0",
-        LineKind::Limit(LimitName::Chunks),
-    ),
-    (8, b"file a empty", LineKind::Twice),
-    (8, b"tick 1", LineKind::Unknown),
-    (9, b"morph", LineKind::Arity),
-    (9, b"morph 1", LineKind::Order),
-    (9, b"morph 2", LineKind::Order),
-    (10, b"create\ta", LineKind::Text),
-    (10, b"create  a", LineKind::Arity),
-    (10, b"client", LineKind::Unknown),
-    (10, b"read b", LineKind::NoFile),
-    (11, b"rea", LineKind::Unknown),
-    (11, b"read b", LineKind::NoFile),
-    (11, b"read a without 1", LineKind::Arity),
-    (12, b"dump a", LineKind::Unknown),
+    (7, b"file A pattern 4294967296 251", b"limit number"),
+    (7, b"file A pattern 1 4294967296", b"limit number"),
+    (7, b"file a pattern 1048577 251", b"limit pattern"),
+    (7, b"file a pattern 10 251", b"limit pattern"),
+    (7, b"file a pattern 1048577 0", b"limit length"),
+    (7, b"file a pattern 1025 0", b"limit chunks"),
+    (8, b"file a empty", b"twice"),
+    (8, b"file a text x", b"twice"),
+    (8, b"file a hex 61", b"twice"),
+    (8, b"file a pattern 1 0", b"twice"),
+    (8, b"file a pattern 1025 0", b"limit chunks"),
+    (10, b"create b", b"nofile"),
+    (11, b"read b", b"nofile"),
+    (2, b"read a", b"nofile"),
+    (12, b"create A", b"nofile"),
+    (2, b"morph 1", b"order"),
+    (9, b"morph 1", b"order"),
+    (9, b"morph 2", b"order"),
+    (3, b"servers 6", b"order"),
+    (12, b"servers 6", b"order"),
+    (2, b"chunk 1", b"order"),
+    (4, b"chunk 65536", b"order"),
+    (3, b"points 1 2", b"order"),
+    (5, b"points 1", b"order"),
+    (4, b"stage 2 2 1", b"order"),
+    (8, b"stage 4294967295 0 0", b"order"),
+    (3, b"file a empty", b"order"),
+    (5, b"file b text x", b"order"),
+    (2, b"phase", b"order"),
+    (7, b"phase", b"order"),
+    (9, b"phase", b"order"),
+    (8, b"client", b"order"),
+    (2, b"client", b"order"),
+    (8, b"create a", b"order"),
+    (9, b"read a", b"order"),
+    (6, b"end", b"order"),
+    (9, b"end", b"order"),
+    (12, b"file b empty", b"order"),
 ];
 
 // The script with line `n` replaced, and with further bytes at its end.
@@ -103,11 +194,50 @@ fn edited(alloc: Global, n: u32, line: &[u8], more: &[u8]) -> Result<Vec<u8>, Fa
     Ok(text)
 }
 
+// The name of a limit.
+fn limit_text(name: LimitName) -> &'static [u8] {
+    match name {
+        LimitName::Text => b"limit text",
+        LimitName::Number => b"limit number",
+        LimitName::Tick => b"limit tick",
+        LimitName::Point => b"limit point",
+        LimitName::Points => b"limit points",
+        LimitName::Chunk => b"limit chunk",
+        LimitName::Name => b"limit name",
+        LimitName::Files => b"limit files",
+        LimitName::Pattern => b"limit pattern",
+        LimitName::Length => b"limit length",
+        LimitName::Chunks => b"limit chunks",
+        LimitName::Phases => b"limit phases",
+        LimitName::Clients => b"limit clients",
+        LimitName::Commands => b"limit commands",
+    }
+}
+
+// The text of a kind of fault, without numbers.
+fn kind_text(kind: &Kind) -> &'static [u8] {
+    match kind {
+        Kind::Text => b"text",
+        Kind::Header => b"header",
+        Kind::Unknown => b"unknown",
+        Kind::Arity => b"arity",
+        Kind::Number => b"number",
+        Kind::Limit(name) => limit_text(*name),
+        Kind::Twice => b"twice",
+        Kind::NoFile => b"nofile",
+        Kind::NoServer => b"noserver",
+        Kind::Order => b"order",
+        Kind::Shape(_) => b"shape",
+        Kind::Family(_) => b"family",
+        Kind::Memory => b"memory",
+    }
+}
+
 // Whether a text has this fault.
-fn has_fault(alloc: Global, text: &[u8], line: u32, kind: LineKind) -> bool {
-    match read_draft(alloc, text) {
+fn has_fault(alloc: Global, text: &[u8], line: u32, kind: &[u8]) -> bool {
+    match read_script(alloc, text) {
         Ok(_) => false,
-        Err(fault) => fault == LineFault { line, kind },
+        Err(fault) => fault.line == line && kind_text(&fault.kind) == kind,
     }
 }
 
@@ -116,44 +246,44 @@ fn each_fault_has_its_line(rt: HostRuntime) -> Result<(), Fail> {
     let alloc = rt.alloc();
     for (at, (n, line, kind)) in FAULTS.iter().enumerate() {
         let text = edited(alloc, *n, line, b"")?;
-        assert!(rt; has_fault(alloc, &text, *n, *kind), "case {at}");
+        assert!(rt; has_fault(alloc, &text, *n, kind), "case {at}");
     }
     Ok(())
-}
-
-// The line and the kind of a text's fault, where it has one.
-fn fault_of(alloc: Global, text: &[u8]) -> Option<(u32, Kind)> {
-    match read_script(alloc, text) {
-        Ok(_) => None,
-        Err(fault) => Some((fault.line, fault.kind)),
-    }
 }
 
 #[test]
 fn the_first_faulty_line_is_told(rt: HostRuntime) -> Result<(), Fail> {
     let alloc = rt.alloc();
-    assert!(rt; matches!(fault_of(alloc, b""), Some((1, Kind::Header))));
-    assert!(rt; matches!(fault_of(alloc, NO_PHASE), Some((8, Kind::Order))));
-    assert!(rt; matches!(fault_of(alloc, &SCRIPT[..103]), Some((11, Kind::Unknown))));
-    assert!(rt; matches!(fault_of(alloc, &SCRIPT[..100]), Some((11, Kind::Order))));
-    let text = edited(alloc, 0, b"", b"\nend")?;
-    assert!(rt; matches!(fault_of(alloc, &text), Some((13, Kind::Order))));
-    let text = edited(alloc, 2, b"servers 06", b"\t")?;
-    assert!(rt; matches!(fault_of(alloc, &text), Some((2, Kind::Number))));
-    let text = edited(alloc, 2, b"servers 5", b"")?;
-    assert!(rt;
-        matches!(
-            fault_of(alloc, &text),
-            Some((5, Kind::Shape(ShapeFault::Servers(6))))
-        )
-    );
+    // A line that is replaced, what stands in its place, further bytes at the end, and the fault.
+    let cases: [(u32, &[u8], &[u8], u32, &[u8]); 12] = [
+        (0, b"", b"\nend", 13, b"order"),
+        (0, b"", b"\nfile a text ", 13, b"arity"),
+        (0, b"", b"\nclient", 13, b"unknown"),
+        (0, b"", b"\n\n", 13, b"unknown"),
+        (0, b"", b"\r", 12, b"text"),
+        (2, b"servers 06", b"\t", 2, b"number"),
+        (2, b"servers 5", b"\nread b", 13, b"nofile"),
+        (2, b"servers 5", b"", 5, b"shape"),
+        (2, b"servers 129", b"", 5, b"shape"),
+        (6, b"stage 3 2 0", b"", 5, b"shape"),
+        (4, b"points 3 3", b"", 5, b"family"),
+        (4, b"points 1", b"", 5, b"family"),
+    ];
+    for (n, line, more, at, kind) in cases {
+        let text = edited(alloc, n, line, more)?;
+        assert!(rt; has_fault(alloc, &text, at, kind), "{n} {at}");
+    }
+    assert!(rt; has_fault(alloc, b"", 1, b"header"));
+    assert!(rt; has_fault(alloc, b"morph 1\n", 2, b"order"));
+    assert!(rt; has_fault(alloc, NO_PHASE, 8, b"order"));
+    assert!(rt; has_fault(alloc, &SCRIPT[..103], 11, b"unknown"));
+    assert!(rt; has_fault(alloc, &SCRIPT[..100], 11, b"order"));
+    let text = edited(alloc, 2, b"servers 129", b"")?;
+    let fault = read_script(alloc, &text).err().ok_or("accepted")?;
+    assert!(rt; matches!(fault.kind, Kind::Shape(ShapeFault::Servers(6))));
     let text = edited(alloc, 4, b"points 3 3", b"")?;
-    assert!(rt;
-        matches!(
-            fault_of(alloc, &text),
-            Some((5, Kind::Family(FamilyFault::PointTwice(0, 1))))
-        )
-    );
+    let fault = read_script(alloc, &text).err().ok_or("accepted")?;
+    assert!(rt; matches!(fault.kind, Kind::Family(FamilyFault::PointTwice(0, 1))));
     Ok(())
 }
 
@@ -173,6 +303,17 @@ fn repeated(
     Ok(text)
 }
 
+// Whether a text is a script that is printed as this text again.
+fn is_printed_again(alloc: Global, text: &[u8]) -> bool {
+    let Ok(script) = read_script(alloc, text) else {
+        return false;
+    };
+    match print_script(alloc, &script) {
+        Ok(printed) => printed.as_slice() == text,
+        Err(_) => false,
+    }
+}
+
 #[test]
 fn a_text_of_1_048_576_bytes_is_read_and_one_byte_more_is_refused(
     rt: HostRuntime,
@@ -180,16 +321,13 @@ fn a_text_of_1_048_576_bytes_is_read_and_one_byte_more_is_refused(
     let alloc = rt.alloc();
     let text = repeated(alloc, LONG_FRONT, b"a", 1_048_466, LONG_BACK)?;
     assert_eq!(rt; text.len(), 1_048_576);
-    let script = read_script(alloc, &text).or(Err("refused"))?;
-    let printed = print_script(alloc, &script)?;
-    assert!(rt; printed.as_slice() == text.as_slice());
+    assert!(rt; is_printed_again(alloc, &text));
     let text = repeated(alloc, LONG_FRONT, b"a", 1_048_467, LONG_BACK)?;
-    assert!(rt;
-        matches!(
-            fault_of(alloc, &text),
-            Some((0, Kind::Limit(LimitName::Text)))
-        )
-    );
+    assert!(rt; has_fault(alloc, &text, 0, b"limit text"));
+    let text = repeated(alloc, LONG_FRONT, b"a b ", 25_000, LONG_BACK)?;
+    assert!(rt; is_printed_again(alloc, &text));
+    let text = repeated(alloc, b"morph 1\n", b" ", 1_000_000, b"")?;
+    assert!(rt; has_fault(alloc, &text, 2, b"unknown"));
     Ok(())
 }
 
@@ -212,12 +350,23 @@ fn with_64_files(alloc: Global, back: &[u8]) -> Result<Vec<u8>, Fail> {
 fn a_script_has_at_most_64_files_of_at_most_1_024_chunks(rt: HostRuntime) -> Result<(), Fail> {
     let alloc = rt.alloc();
     let text = edited(alloc, 7, b"file a pattern 1024 0", b"")?;
-    assert!(rt; read_script(alloc, &text).is_ok());
+    assert!(rt; is_printed_again(alloc, &text));
     let text = with_64_files(alloc, b"end")?;
-    assert!(rt; read_script(alloc, &text).is_ok());
+    assert!(rt; is_printed_again(alloc, &text));
     let text = with_64_files(alloc, b"file z empty\nend")?;
-    let fault = LineKind::Limit(LimitName::Files);
-    assert!(rt; has_fault(alloc, &text, 71, fault));
+    assert!(rt; has_fault(alloc, &text, 71, b"limit files"));
+    let text = with_64_files(alloc, b"file aa pattern 1 251\nend")?;
+    assert!(rt; has_fault(alloc, &text, 71, b"limit files"));
+    let back = repeated(
+        alloc,
+        b"phase\nclient\n",
+        b"create aa\nread hh\ncreate de\n",
+        90,
+        b"end",
+    )?;
+    let text = with_64_files(alloc, &back)?;
+    assert!(rt; text.len() > 3_000);
+    assert!(rt; is_printed_again(alloc, &text));
     Ok(())
 }
 
@@ -225,31 +374,20 @@ fn a_script_has_at_most_64_files_of_at_most_1_024_chunks(rt: HostRuntime) -> Res
 fn a_script_has_at_most_64_phases_and_1_024_commands(rt: HostRuntime) -> Result<(), Fail> {
     let alloc = rt.alloc();
     // The lines before, those of one more, how many of them are allowed, and the line and the limit of one more.
-    let cases: [(&[u8], &[u8], usize, u32, LimitName); 2] = [
-        (
-            &SCRIPT[..78],
-            b"phase\nclient\n",
-            64,
-            136,
-            LimitName::Phases,
-        ),
-        (
-            &SCRIPT[..91],
-            b"read a\n",
-            1_024,
-            1_034,
-            LimitName::Commands,
-        ),
+    let cases: [(&[u8], &[u8], usize, u32, &[u8]); 2] = [
+        (&SCRIPT[..78], b"phase\nclient\n", 64, 136, b"limit phases"),
+        (&SCRIPT[..91], b"read a\n", 1_024, 1_034, b"limit commands"),
     ];
     for (front, part, most, line, name) in cases {
         let text = repeated(alloc, front, part, most, b"end")?;
-        assert!(rt; read_script(alloc, &text).is_ok(), "line {line}");
+        assert!(rt; is_printed_again(alloc, &text), "line {line}");
         let text = repeated(alloc, front, part, most, part)?;
-        assert!(rt;
-            has_fault(alloc, &text, line, LineKind::Limit(name)),
-            "line {line}"
-        );
+        assert!(rt; has_fault(alloc, &text, line, name), "line {line}");
     }
+    let text = repeated(alloc, &SCRIPT[..91], b"read a\n", 1_024, b"read b")?;
+    assert!(rt; has_fault(alloc, &text, 1_034, b"limit commands"));
+    let text = repeated(alloc, &SCRIPT[..91], b"read a\n", 1_024, b"read")?;
+    assert!(rt; has_fault(alloc, &text, 1_034, b"arity"));
     Ok(())
 }
 

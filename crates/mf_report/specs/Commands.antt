@@ -2,9 +2,9 @@
 use Rattle.std.specs.Prelude.{ℕ, Bool, false, List, ◌++◌, codes}
 use Rattle.std.specs.List.{flat_map}
 use Rattle.mf_text.specs.Decimal.{decimal_text}
-use Rattle.mf_script.specs.declared.scripts.Act.{Act}
-use Rattle.mf_script.specs.declared.scripts.Act.TheVariants as act
-use Rattle.mf_script.specs.Printing.{name_at}
+use Rattle.mf_lines.specs.declared.parts.Act.{Act}
+use Rattle.mf_lines.specs.declared.parts.Act.TheVariants as act
+use Rattle.mf_lines.specs.LineTexts.{name_at}
 use Rattle.mf_client.specs.declared.done.Place.{Place}
 use Rattle.mf_client.specs.declared.done.Part.{Part}
 use Rattle.mf_client.specs.declared.done.Done.{Done}

@@ -2,8 +2,8 @@
 use Rattle.std.specs.Prelude.{ℕ, List, ◌++◌, codes, map, filter}
 use Rattle.std.specs.List.{flat_map}
 use Rattle.mf_vault.specs.declared.io.Io.{Io}
-use Rattle.mf_script.specs.Meaning.{Script}
-use Rattle.mf_script.specs.Printing.{names_in}
+use Rattle.mf_lines.specs.Meaning.{Script}
+use Rattle.mf_lines.specs.Meaning.{names_in}
 use Rattle.mf_client.specs.declared.done.Done.{Done}
 use Rattle.mf_report.specs.Lines.{ended}
 use Rattle.mf_report.specs.Counts.{total_io, io_text}

@@ -2,9 +2,9 @@
 use Rattle.std.specs.Prelude.{ℕ, ◌+◌, List, ◌++◌, codes, length}
 use Rattle.std.specs.List.{flat_map}
 use Rattle.mf_shape.specs.declared.Stage.{Stage}
-use Rattle.mf_script.specs.declared.kinds.LimitName.TheVariants as limit
-use Rattle.mf_script.specs.declared.faults.Kind.TheVariants as kind
-use Rattle.mf_script.specs.declared.faults.ScriptFault.{ScriptFault}
+use Rattle.mf_lines.specs.declared.parts.LimitName.TheVariants as limit
+use Rattle.mf_lines.specs.declared.parts.Kind.TheVariants as kind
+use Rattle.mf_lines.specs.declared.parts.ScriptFault.{ScriptFault}
 use Rattle.mf_report.specs.Lines.{ended, spaced}
 use Rattle.mf_report.specs.Faults.{kind_text}
 

@@ -2,7 +2,8 @@
 
 ghost use Rattle.std.specs.Prelude.{◌≡◌, ◌++◌, OnOk};
 ghost use Rattle.std.specs.List.{flat_map};
-ghost use Rattle.mf_script.specs.Printing.{names_in, name_at};
+ghost use Rattle.mf_lines.specs.Meaning.{names_in};
+ghost use Rattle.mf_lines.specs.LineTexts.{name_at};
 ghost use Rattle.mf_report.specs.Lines.{ended};
 ghost use Rattle.mf_report.specs.Commands.{place_text, act_text, converts, command_text};
 ghost use Rattle.mf_report.specs.Commands.{done_line, part_line, done_text};

@@ -1,170 +1,208 @@
--- One pass over the lines finds the forms that they have, or the first fault.
-use Rattle.std.proofs.Common.{◌≡◌, ℕ, ◌+◌, List, [], ◌∷◌, ◌++◌, length, Option, Some, None, Result, Ok, Err, ltb, refl, sym, ap, ◌∙◌, subst, arith, inl, inr, ◌⊎◌}
-use Rattle.std.proofs.lemmas.Bool.{cases_Bool, cond-true, cond-false, ltb-true, ltb-false, le-ltb}
-use Rattle.std.proofs.lemmas.List.{length_push}
+-- One pass over the lines finds what they add up to, or the first fault, and no other.
+use Rattle.std.proofs.Common.{◌≡◌, ℕ, ◌+◌, ◌<◌, ◌≤◌, List, [], ◌∷◌, ◌++◌, length, Option, Some, None, Result, Ok, Err, ltb, refl, sym, ap, ◌∙◌, subst, arith, inl, inr, ◌⊎◌}
+use Rattle.std.proofs.lemmas.Bool.{cases_Bool, cond-true, cond-false, ltb-true, ltb-false, lt-ltb, le-ltb}
 use Rattle.mf_text.specs.Lines.{lines_of}
-use Rattle.mf_script.specs.declared.line_words.LineWord.{LineWord}
-use Rattle.mf_script.specs.declared.line_words.LineWord.TheVariants as word
-use Rattle.mf_script.specs.declared.kinds.LimitName.TheVariants as limit
-use Rattle.mf_script.specs.declared.kinds.LineKind.{LineKind}
-use Rattle.mf_script.specs.declared.kinds.LineKind.TheVariants as kind
-use Rattle.mf_script.specs.declared.kinds.LineFault.{LineFault}
-use Rattle.mf_script.specs.declared.forms.Form.{Form}
-use Rattle.mf_script.specs.Forms.{context_of}
-use Rattle.mf_script.specs.Reading.{form_at, end_fault, MakeForms, HasForms, IsLineFault}
-use Rattle.mf_script.specs.Passes.{ended, after, forms_from, forms_of}
-use Rattle.mf_script.specs.Faults.{kind_of, IsFaultAt}
-use Rattle.mf_script.specs.Readers.{IsFaultOf}
+use Rattle.mf_lines.specs.declared.words.LineWord.{LineWord}
+use Rattle.mf_lines.specs.declared.words.LineWord.TheVariants as word
+use Rattle.mf_lines.specs.declared.parts.LimitName.TheVariants as limit
+use Rattle.mf_lines.specs.declared.parts.Kind.{Kind}
+use Rattle.mf_lines.specs.declared.parts.Kind.TheVariants as kind
+use Rattle.mf_lines.specs.declared.parts.ScriptFault.{ScriptFault}
+use Rattle.mf_lines.specs.declared.forms.Form.{Form}
+use Rattle.mf_lines.specs.Meaning.{SoFar, so_before, with_line, so_with, so_of}
+use Rattle.mf_lines.specs.Lines.{form_at}
+use Rattle.mf_script.specs.Texts.{end_fault, MakeForms, HasForms, IsLineFault}
+use Rattle.mf_script.specs.Passes.{ended, after, read_lines, read_text}
 
 -- ---- the end
 
-pub ends : (last : Option LineWord) → end_fault last ≡ None → last ≡ Some word.End
+ends : (last : Option LineWord) → end_fault last ≡ None → last ≡ Some word.End
 ends None e = absurd cc
 ends (Some word.End) e = refl
 ends (Some last) e = absurd cc
 
-pub ended_ok : (before all : List Form) (fault : Option LineKind) → ended before fault ≡ Ok all → (fault ≡ None) × (before ≡ all)
-ended_ok before all None e = (refl, cc)
-ended_ok before all (Some fault) e = absurd cc
+ended_ok : (so all : SoFar) (k : Option Kind) → ended so k ≡ Ok all → (k ≡ None) × (so ≡ all)
+ended_ok so all None e = (refl, cc)
+ended_ok so all (Some k) e = absurd cc
 
 -- the line and the kind of a fault
-abbrev line_in : Result (List Form) LineFault → ℕ
-line_in (Ok forms) = 0
+abbrev pub line_in : Result SoFar ScriptFault → ℕ
+line_in (Ok so) = 0
 line_in (Err fault) = fault.line
 
-abbrev kind_in : Result (List Form) LineFault → LineKind
-kind_in (Ok forms) = kind.Memory
+abbrev pub kind_in : Result SoFar ScriptFault → Kind
+kind_in (Ok so) = kind.Memory
 kind_in (Err fault) = fault.kind
 
-ended_err : (before : List Form) (fault : Option LineKind) (n : ℕ) (k : LineKind) → ended before fault ≡ Err (record { line = n; kind = k }) → (fault ≡ Some k) × (n ≡ length before + 1)
-ended_err before None n k e = absurd cc
-ended_err before (Some fault) n k e = (ap Some (ap kind_in e), sym (ap line_in e))
+ended_err : (so : SoFar) (o : Option Kind) (n : ℕ) (k : Kind) → ended so o ≡ Err (record { line = n; kind = k }) → (o ≡ Some k) × (n ≡ so.lines + 1)
+ended_err so None n k e = absurd cc
+ended_err so (Some j) n k e = (ap Some (ap kind_in e), sym (ap line_in e))
+
+-- ---- one line
+
+pub read_more : (so : SoFar) (line : List ℕ) (lines : List (List ℕ)) (form : Form) → form_at so line ≡ Ok form → read_lines so (line ∷ lines) ≡ read_lines (with_line so form) lines
+unfolding read_lines
+read_more so line lines form e = ap (λ r. after so r (λ f. read_lines (with_line so f) lines)) e
+
+pub read_refused : (so : SoFar) (line : List ℕ) (lines : List (List ℕ)) (k : Kind) → form_at so line ≡ Err k → read_lines so (line ∷ lines) ≡ Err (record { line = so.lines + 1; kind = k })
+unfolding read_lines
+read_refused so line lines k e = ap (λ r. after so r (λ f. read_lines (with_line so f) lines)) e
+
+pub read_end : (so : SoFar) (o : Option Kind) → end_fault so.last ≡ o → read_lines so [] ≡ ended so o
+unfolding read_lines
+read_end so o e = ap (ended so) e
 
 -- ---- lines that have forms
 
-MakeForms-from : (before : List Form) (lines : List (List ℕ)) (all : List Form) → forms_from before lines ≡ Ok all → MakeForms before lines all × ((context_of all).last ≡ Some word.End)
-unfolding forms_from
-MakeForms-from before [] all e =
-    let done = ended_ok before all (end_fault (context_of before).last) e in
-    (done.1, subst (λ forms. (context_of forms).last ≡ Some word.End) done.1 (ends (context_of before).last done.0))
-MakeForms-from before (line ∷ lines) all e = go (form_at (context_of before) line) refl e (λ form. MakeForms-from (before ++ form ∷ []) lines all)
+record Passed (so : SoFar) (lines : List (List ℕ)) (all : SoFar) : Type 0 where
+  forms : List Form
+  made : MakeForms so lines forms
+  is : all ≡ so_with so forms
+  last : all.last ≡ Some word.End
+
+passed : (so : SoFar) (lines : List (List ℕ)) (all : SoFar) → read_lines so lines ≡ Ok all → Passed so lines all
+unfolding read_lines
+passed so [] all e =
+    let done = ended_ok so all (end_fault so.last) e in
+    record { forms = []; made = tt; is = sym done.1; last = subst (λ (x : SoFar). x.last ≡ Some word.End) done.1 (ends so.last done.0) }
+passed so (line ∷ lines) all e = go (form_at so line) refl e (λ form. passed (with_line so form) lines all)
   where
-    go : (r : Result Form LineKind) → form_at (context_of before) line ≡ r → after before r (λ form. forms_from (before ++ form ∷ []) lines) ≡ Ok all
-        → ((form : Form) → forms_from (before ++ form ∷ []) lines ≡ Ok all → MakeForms (before ++ form ∷ []) lines all × ((context_of all).last ≡ Some word.End))
-        → MakeForms before (line ∷ lines) all × ((context_of all).last ≡ Some word.End)
-    go (Ok form) at x more = let rest = more form x in ((form, at, rest.0), rest.1)
-    go (Err fault) at x more = absurd cc
+    go : (r : Result Form Kind) → form_at so line ≡ r → after so r (λ form. read_lines (with_line so form) lines) ≡ Ok all
+        → ((form : Form) → read_lines (with_line so form) lines ≡ Ok all → Passed (with_line so form) lines all)
+        → Passed so (line ∷ lines) all
+    go (Ok form) at x more =
+        let rest = more form x in
+        record { forms = form ∷ rest.forms; made = (at, rest.made); is = rest.is; last = rest.last }
+    go (Err k) at x more = absurd cc
 
-forms_from-have : (before : List Form) (lines : List (List ℕ)) (all : List Form) → MakeForms before lines all → (context_of all).last ≡ Some word.End → forms_from before lines ≡ Ok all
-unfolding forms_from
-forms_from-have before [] all h end = ap (λ last. ended before (end_fault last)) (ap (λ forms. (context_of forms).last) h ∙ end) ∙ ap Ok h
-forms_from-have before (line ∷ lines) all h end =
-    ap (λ r. after before r (λ form. forms_from (before ++ form ∷ []) lines)) h.1 ∙ forms_from-have (before ++ h.0 ∷ []) lines all h.2 end
+have_passed : (so : SoFar) (lines : List (List ℕ)) (forms : List Form) → MakeForms so lines forms → (so_with so forms).last ≡ Some word.End → read_lines so lines ≡ Ok (so_with so forms)
+have_passed so [] [] h end = read_end so None (ap end_fault end)
+have_passed so [] (form ∷ forms) h end = absurd h
+have_passed so (line ∷ lines) [] h end = absurd h
+have_passed so (line ∷ lines) (form ∷ forms) h end = read_more so line lines form h.0 ∙ have_passed (with_line so form) lines forms h.1 end
 
--- ---- the first fault, behind lines of the forms before
+-- ---- the first fault
 
-record FirstFrom (before : List Form) (lines : List (List ℕ)) (n : ℕ) (fault : LineKind) : Type 0 where
+record FirstFrom (so : SoFar) (lines : List (List ℕ)) (n : ℕ) (k : Kind) : Type 0 where
   done : List (List ℕ)
   line : List ℕ
   behind : List (List ℕ)
   forms : List Form
   split : lines ≡ done ++ line ∷ behind
-  number : n ≡ length before + length done + 1
-  read : MakeForms before done forms
-  is : form_at (context_of forms) line ≡ Err fault
+  number : n ≡ so.lines + length done + 1
+  read : MakeForms so done forms
+  is : form_at (so_with so forms) line ≡ Err k
 
-record EndFrom (before : List Form) (lines : List (List ℕ)) (n : ℕ) (fault : LineKind) : Type 0 where
+record EndFrom (so : SoFar) (lines : List (List ℕ)) (n : ℕ) (k : Kind) : Type 0 where
   forms : List Form
-  number : n ≡ length before + length lines + 1
-  read : MakeForms before lines forms
-  is : end_fault (context_of forms).last ≡ Some fault
+  number : n ≡ so.lines + length lines + 1
+  read : MakeForms so lines forms
+  is : end_fault (so_with so forms).last ≡ Some k
 
-FirstFrom-more : (before : List Form) (line : List ℕ) (lines : List (List ℕ)) (n : ℕ) (fault : LineKind) (form : Form) → form_at (context_of before) line ≡ Ok form → FirstFrom (before ++ form ∷ []) lines n fault → FirstFrom before (line ∷ lines) n fault
-FirstFrom-more before line lines n fault form at h = record {
-  done = line ∷ h.done;
-  line = h.line;
-  behind = h.behind;
-  forms = h.forms;
-  split = ap (λ ls. line ∷ ls) h.split;
-  number = omega (arith, h.number, length_push before form);
-  read = (form, at, h.read);
-  is = h.is;
-}
-
-EndFrom-more : (before : List Form) (line : List ℕ) (lines : List (List ℕ)) (n : ℕ) (fault : LineKind) (form : Form) → form_at (context_of before) line ≡ Ok form → EndFrom (before ++ form ∷ []) lines n fault → EndFrom before (line ∷ lines) n fault
-EndFrom-more before line lines n fault form at h = record {
-  forms = h.forms;
-  number = omega (arith, h.number, length_push before form);
-  read = (form, at, h.read);
-  is = h.is;
-}
-
-fault_from : (before : List Form) (lines : List (List ℕ)) (n : ℕ) (fault : LineKind) → forms_from before lines ≡ Err (record { line = n; kind = fault }) → FirstFrom before lines n fault ⊎ EndFrom before lines n fault
-unfolding forms_from
-fault_from before [] n fault e =
-    let done = ended_err before (end_fault (context_of before).last) n fault e in
-    inr (record { forms = before; number = omega (arith, done.1); read = refl; is = done.0 })
-fault_from before (line ∷ lines) n fault e = go (form_at (context_of before) line) refl e (λ form. fault_from (before ++ form ∷ []) lines n fault)
+fault_from : (so : SoFar) (lines : List (List ℕ)) (n : ℕ) (k : Kind) → read_lines so lines ≡ Err (record { line = n; kind = k }) → FirstFrom so lines n k ⊎ EndFrom so lines n k
+unfolding read_lines
+fault_from so [] n k e =
+    let done = ended_err so (end_fault so.last) n k e in
+    inr (record { forms = []; number = omega (arith, done.1); read = tt; is = done.0 })
+fault_from so (line ∷ lines) n k e = go (form_at so line) refl e (λ form. fault_from (with_line so form) lines n k)
   where
-    go : (r : Result Form LineKind) → form_at (context_of before) line ≡ r → after before r (λ form. forms_from (before ++ form ∷ []) lines) ≡ Err (record { line = n; kind = fault })
-        → ((form : Form) → forms_from (before ++ form ∷ []) lines ≡ Err (record { line = n; kind = fault }) → FirstFrom (before ++ form ∷ []) lines n fault ⊎ EndFrom (before ++ form ∷ []) lines n fault)
-        → FirstFrom before (line ∷ lines) n fault ⊎ EndFrom before (line ∷ lines) n fault
+    go : (r : Result Form Kind) → form_at so line ≡ r → after so r (λ form. read_lines (with_line so form) lines) ≡ Err (record { line = n; kind = k })
+        → ((form : Form) → read_lines (with_line so form) lines ≡ Err (record { line = n; kind = k }) → FirstFrom (with_line so form) lines n k ⊎ EndFrom (with_line so form) lines n k)
+        → FirstFrom so (line ∷ lines) n k ⊎ EndFrom so (line ∷ lines) n k
     go (Ok form) at x more =
         elim (more form x) [
-          | inl first ↦ inl (FirstFrom-more before line lines n fault form at first)
-          | inr end ↦ inr (EndFrom-more before line lines n fault form at end)
+          | inl h ↦ inl (record {
+            done = line ∷ h.done;
+            line = h.line;
+            behind = h.behind;
+            forms = form ∷ h.forms;
+            split = ap (λ ls. line ∷ ls) h.split;
+            number = omega (arith, h.number);
+            read = (at, h.read);
+            is = h.is;
+          })
+          | inr h ↦ inr (record { forms = form ∷ h.forms; number = omega (arith, h.number); read = (at, h.read); is = h.is })
         ]
-    go (Err k) at x more =
-        let number : length before + 1 ≡ n = ap line_in x in
-        let same : k ≡ fault = ap kind_in x in
-        inl (record { done = []; line = line; behind = lines; forms = before; split = refl; number = omega (arith, number); read = refl; is = at ∙ ap Err same })
+    go (Err j) at x more =
+        let number : so.lines + 1 ≡ n = ap line_in x in
+        let same : j ≡ k = ap kind_in x in
+        inl (record { done = []; line = line; behind = lines; forms = []; split = refl; number = omega (arith, number); read = tt; is = at ∙ ap Err same })
+
+first_found : (so : SoFar) (done : List (List ℕ)) (line : List ℕ) (behind : List (List ℕ)) (forms : List Form) (n : ℕ) (k : Kind)
+    → MakeForms so done forms → form_at (so_with so forms) line ≡ Err k → n ≡ so.lines + length done + 1
+    → read_lines so (done ++ line ∷ behind) ≡ Err (record { line = n; kind = k })
+first_found so [] line behind [] n k h is number =
+    let same : so.lines + 1 ≡ n = omega arith in
+    read_refused so line behind k is ∙ ap (λ m. Err (record { line = m; kind = k })) same
+first_found so [] line behind (form ∷ forms) n k h is number = absurd h
+first_found so (d ∷ done) line behind [] n k h is number = absurd h
+first_found so (d ∷ done) line behind (form ∷ forms) n k h is number =
+    read_more so d (done ++ line ∷ behind) form h.0 ∙ first_found (with_line so form) done line behind forms n k h.1 is (omega arith)
+
+end_found : (so : SoFar) (lines : List (List ℕ)) (forms : List Form) (n : ℕ) (k : Kind)
+    → MakeForms so lines forms → end_fault (so_with so forms).last ≡ Some k → n ≡ so.lines + length lines + 1
+    → read_lines so lines ≡ Err (record { line = n; kind = k })
+end_found so [] [] n k h is number =
+    let same : so.lines + 1 ≡ n = omega arith in
+    read_end so (Some k) is ∙ ap (λ m. Err (record { line = m; kind = k })) same
+end_found so [] (form ∷ forms) n k h is number = absurd h
+end_found so (line ∷ lines) [] n k h is number = absurd h
+end_found so (line ∷ lines) (form ∷ forms) n k h is number =
+    read_more so line lines form h.0 ∙ end_found (with_line so form) lines forms n k h.1 is (omega arith)
 
 -- ---- of a whole text
 
-pub HasForms-from : (text : List ℕ) (forms : List Form) → forms_of text ≡ Ok forms → HasForms text forms
-unfolding forms_of
-HasForms-from text forms e =
+pub record HasSo (text : List ℕ) (so : SoFar) : Type 0 where
+  pub forms : List Form
+  pub lines : HasForms text forms
+  pub is : so ≡ so_of forms
+
+pub so_read : (text : List ℕ) (so : SoFar) → read_text text ≡ Ok so → HasSo text so
+unfolding read_text so_of
+so_read text so e =
     elim (cases_Bool (ltb 1048576 (length text))) [
       | inl holds ↦ let at = sym (cond-true _ _ _ holds) ∙ e in absurd cc
       | inr fails ↦
-          let have = MakeForms-from [] (lines_of text) forms (sym (cond-false _ _ _ fails) ∙ e) in
-          record { short = ltb-false 1048576 (length text) fails; lines = have.0; ended = have.1 }
+          let have = passed so_before (lines_of text) so (sym (cond-false _ _ _ fails) ∙ e) in
+          record {
+            forms = have.forms;
+            lines = record { short = ltb-false 1048576 (length text) fails; lines = have.made; ended = ap (λ (x : SoFar). x.last) (sym have.is) ∙ have.last };
+            is = have.is;
+          }
     ]
 
-pub forms_of-have : (text : List ℕ) (forms : List Form) → HasForms text forms → forms_of text ≡ Ok forms
-unfolding forms_of
-forms_of-have text forms h =
-    cond-false _ _ _ (le-ltb 1048576 (length text) (omega (arith, h.short))) ∙ forms_from-have [] (lines_of text) forms h.lines h.ended
+pub read_text-have : (text : List ℕ) (forms : List Form) → HasForms text forms → read_text text ≡ Ok (so_of forms)
+unfolding read_text so_of
+read_text-have text forms h =
+    let short = h.short in
+    cond-false _ _ _ (le-ltb 1048576 (length text) (omega arith)) ∙ have_passed so_before (lines_of text) forms h.lines h.ended
 
-IsLineFault-from : (text : List ℕ) (n : ℕ) (fault : LineKind) → forms_of text ≡ Err (record { line = n; kind = fault }) → IsLineFault text n fault
-unfolding forms_of
-IsLineFault-from text n fault e =
+pub fault_read : (text : List ℕ) (n : ℕ) (k : Kind) → read_text text ≡ Err (record { line = n; kind = k }) → IsLineFault text n k
+unfolding read_text so_of
+fault_read text n k e =
     elim (cases_Bool (ltb 1048576 (length text))) [
       | inl holds ↦
           let at = sym (cond-true _ _ _ holds) ∙ e in
           let number : 0 ≡ n = ap line_in at in
-          let same : kind.Limit limit.Text ≡ fault = ap kind_in at in
+          let same : kind.Limit limit.Text ≡ k = ap kind_in at in
           inl (record { long = ltb-true 1048576 (length text) holds; number = sym number; is = sym same })
       | inr fails ↦
           inr (
             ltb-false 1048576 (length text) fails,
-            elim (fault_from [] (lines_of text) n fault (sym (cond-false _ _ _ fails) ∙ e)) [
+            elim (fault_from so_before (lines_of text) n k (sym (cond-false _ _ _ fails) ∙ e)) [
               | inl h ↦ inl (record { before = h.done; line = h.line; after = h.behind; forms = h.forms; split = h.split; number = omega (arith, h.number); read = h.read; is = h.is })
               | inr h ↦ inr (record { forms = h.forms; number = omega (arith, h.number); read = h.read; is = h.is })
             ],
           )
     ]
 
--- the fault of a text as a script's
-pub line_fault_is : (text : List ℕ) (n : ℕ) (fault : LineKind) → IsFaultOf (record { line = n; kind = fault }) fault (forms_of text) → IsFaultAt text n (kind_of fault)
-line_fault_is text n kind.Text h = IsLineFault-from text n kind.Text h
-line_fault_is text n kind.Header h = IsLineFault-from text n kind.Header h
-line_fault_is text n kind.Unknown h = IsLineFault-from text n kind.Unknown h
-line_fault_is text n kind.Arity h = IsLineFault-from text n kind.Arity h
-line_fault_is text n kind.Number h = IsLineFault-from text n kind.Number h
-line_fault_is text n (kind.Limit l) h = IsLineFault-from text n (kind.Limit l) h
-line_fault_is text n kind.Twice h = IsLineFault-from text n kind.Twice h
-line_fault_is text n kind.NoFile h = IsLineFault-from text n kind.NoFile h
-line_fault_is text n kind.NoServer h = IsLineFault-from text n kind.NoServer h
-line_fault_is text n kind.Order h = IsLineFault-from text n kind.Order h
-line_fault_is text n kind.Memory h = tt
+pub read_text-fault : (text : List ℕ) (n : ℕ) (k : Kind) → IsLineFault text n k → read_text text ≡ Err (record { line = n; kind = k })
+unfolding read_text so_of
+read_text-fault text n k (inl h) =
+    cond-true _ _ _ (lt-ltb 1048576 (length text) h.long) ∙ (λ i. Err (record { line = sym h.number i; kind = sym h.is i }))
+read_text-fault text n k (inr (short, inl h)) =
+    cond-false _ _ _ (le-ltb 1048576 (length text) short)
+    ∙ ap (read_lines so_before) h.split
+    ∙ first_found so_before h.before h.line h.after h.forms n k h.read h.is (omega (arith, h.number))
+read_text-fault text n k (inr (short, inr h)) =
+    cond-false _ _ _ (le-ltb 1048576 (length text) short) ∙ end_found so_before (lines_of text) h.forms n k h.read h.is (omega (arith, h.number))

@@ -1,109 +1,142 @@
--- The faults of the stages and of the points of a text, and its script.
-use Rattle.std.proofs.Common.{◌≡◌, ℕ, zero, suc, get_or, ◌+◌, ◌<◌, ◌≤◌, List, [], ◌∷◌, ◌++◌, map, length, Result, Option, Some, None, Ok, Err, refl, sym, ap, ◌∙◌, subst, arith, Vec, false}
-use Rattle.std.specs.Prelude.{is_some, codes, IfOk, All}
-use Rattle.std.specs.Global.{Global}
-use Rattle.std.proofs.lemmas.List.{append-nil, map_push, length-map}
+-- What is read of a text: its script, or the fault of its stages or points; and what a script's parts are.
+use Rattle.std.proofs.Common.{◌≡◌, ◌≢◌, ℕ, zero, suc, get_or, ◌+◌, ◌<◌, ◌≤◌, List, [], ◌∷◌, ◌++◌, map, length, Result, Ok, Err, refl, sym, ap, ◌∙◌, subst, arith, inl, inr, ◌⊎◌}
+use Rattle.std.specs.Prelude.{codes, IfOk, All}
+use Rattle.std.proofs.lemmas.List.{map_push, length-map}
+use Rattle.std.proofs.lemmas.List.Elements.{All-nil, All-cons}
+use Rattle.mf_text.specs.Lines.{lines_of}
 use Rattle.mf_shape.specs.declared.ShapeFault.{ShapeFault}
 use Rattle.mf_shape.specs.declared.ShapeFault.TheVariants as shape
 use Rattle.mf_shape.specs.Chain.{IsShape}
 use Rattle.mf_shape.specs.Faults as shapes
 use Rattle.mf_check.specs.declared.FamilyFault.{FamilyFault}
 use Rattle.mf_check.specs.declared.FamilyFault.TheVariants as family
-use Rattle.mf_check.specs.Faults as families
-use Rattle.mf_script.specs.declared.scripts.Command.{Command}
-use Rattle.mf_script.specs.declared.scripts.Client.{Client}
-use Rattle.mf_script.specs.declared.scripts.Item.{Item}
-use Rattle.mf_script.specs.declared.contents.FileLine.{FileLine}
-use Rattle.mf_script.specs.declared.forms.Form.{Form}
-use Rattle.mf_script.specs.declared.forms.Form.TheVariants as says
-use Rattle.mf_script.specs.Meaning.{Block, Script, on_last, with_points, with_stage, with_form, no_block, no_script, script_from, script_of, main_of, code_of}
-use Rattle.mf_script.specs.Drafts.{open_phase, block_in, script_in}
-use Rattle.mf_script.specs.Passes.{forms_of}
-use Rattle.mf_script.specs.Reading.{HasForms}
-use Rattle.mf_script.specs.Faults.{first_stage_line, main_code, shape_kind, family_kind, IsFaultAt}
-use Rattle.mf_script.specs.declared.families.NamedFamily.{NamedFamily}
 use Rattle.mf_check.specs.Families.{Code, IsCode}
-use Rattle.std.proofs.lemmas.List.Elements.{All-nil, All-cons}
-use Rattle.mf_script.specs.declared.drafts.Draft.{Draft}
-use Rattle.mf_script.specs.Scripts.{block_of, script_with, IsScript, IsKept}
+use Rattle.mf_check.specs.Faults as families
+use Rattle.mf_lines.specs.declared.parts.FileLine.{FileLine}
+use Rattle.mf_lines.specs.declared.parts.Item.{Item}
+use Rattle.mf_lines.specs.declared.parts.Kind.{Kind}
+use Rattle.mf_lines.specs.declared.parts.Kind.TheVariants as kind
+use Rattle.mf_lines.specs.declared.parts.ScriptFault.{ScriptFault}
+use Rattle.mf_lines.specs.declared.draft.Draft.{Draft}
+use Rattle.mf_lines.specs.declared.forms.Form.{Form}
+use Rattle.mf_lines.specs.declared.forms.Form.TheVariants as says
+use Rattle.mf_lines.specs.Meaning.{Block, Script, SoFar, on_last, with_points, with_stage, with_form, no_block, no_script, so_before, with_line, so_with, so_of, main_of}
+use Rattle.mf_lines.specs.Drafts.{script_in, so_in}
+use Rattle.mf_script.specs.declared.script.NamedFamily.{NamedFamily}
+use Rattle.mf_script.specs.Passes.{read_text}
+use Rattle.mf_script.specs.Texts.{HasForms}
+use Rattle.mf_script.specs.Scripts.{block_of, code_of, script_with, IsScript, IsKept}
+use Rattle.mf_script.specs.Faults.{main_code, shape_kind, family_kind, IsFault, IsScriptFault}
 use Rattle.mf_script.specs.Printing.{script_forms, script_text}
-use Rattle.mf_script.proofs.PassLemmas.{HasForms-from, forms_of-have}
-use Rattle.mf_script.proofs.RoundTrip.{first_stage, again}
+use Rattle.mf_script.proofs.PassLemmas.{HasSo, so_read, fault_read}
+use Rattle.mf_script.proofs.RoundTrip.{same_lines, no_longer, again}
 
-module _ (text : List ℕ) (forms : List Form) (read : forms_of text ≡ Ok forms) where
-  lines : HasForms text forms
-  lines = HasForms-from text forms read
+-- ---- faults
 
-  line : 5 ≡ first_stage_line forms
-  line = sym (first_stage text forms read)
+-- a fault of the lines, unless memory ran out
+pub line_fault : (text : List ℕ) (fault : ScriptFault) → (fault.kind ≢ kind.Memory → read_text text ≡ Err fault) → IsScriptFault text fault
+line_fault text fault h = go fault.kind refl
+  where
+    told : fault.kind ≢ kind.Memory → IsScriptFault text fault
+    told other = inr (inl (fault_read text fault.line fault.kind (h other)))
 
-  pub shape_fault : (fault : ShapeFault) → shapes.IsFirst (main_of (script_of forms)).stages (script_of forms).servers fault → IsFaultAt text 5 (shape_kind fault)
-  shape_fault shape.NoStage h = record { forms = forms; lines = lines; line = line; not_memory = λ e. cc; first = h }
-  shape_fault shape.TooManyStages h = record { forms = forms; lines = lines; line = line; not_memory = λ e. cc; first = h }
-  shape_fault (shape.Width g) h = record { forms = forms; lines = lines; line = line; not_memory = λ e. cc; first = h }
-  shape_fault (shape.Parities g) h = record { forms = forms; lines = lines; line = line; not_memory = λ e. cc; first = h }
-  shape_fault (shape.Copies g) h = record { forms = forms; lines = lines; line = line; not_memory = λ e. cc; first = h }
-  shape_fault (shape.NotMultiple g) h = record { forms = forms; lines = lines; line = line; not_memory = λ e. cc; first = h }
-  shape_fault (shape.ParitiesGrow g) h = record { forms = forms; lines = lines; line = line; not_memory = λ e. cc; first = h }
-  shape_fault (shape.CopiesGrow g) h = record { forms = forms; lines = lines; line = line; not_memory = λ e. cc; first = h }
-  shape_fault (shape.ParitiesOverWidth g) h = record { forms = forms; lines = lines; line = line; not_memory = λ e. cc; first = h }
-  shape_fault shape.CopiesDontFit h = record { forms = forms; lines = lines; line = line; not_memory = λ e. cc; first = h }
-  shape_fault (shape.Servers n) h = record { forms = forms; lines = lines; line = line; not_memory = λ e. cc; first = h }
-  shape_fault shape.Memory h = tt
+    go : (k : Kind) → fault.kind ≡ k → IsScriptFault text fault
+    go kind.Memory e = inl e
+    go k e = told (λ same. let no = sym e ∙ same in absurd cc)
 
-  pub family_fault : (fault : FamilyFault) → IsShape (main_code (script_of forms)).shape → families.IsFault (main_of (script_of forms)).stages (main_of (script_of forms)).points fault → IsFaultAt text 5 (family_kind fault)
-  family_fault (family.PointCount n) s h = record { forms = forms; lines = lines; line = line; not_memory = λ e. cc; shape_ok = s; first = h }
-  family_fault (family.PointZero i) s h = record { forms = forms; lines = lines; line = line; not_memory = λ e. cc; shape_ok = s; first = h }
-  family_fault (family.PointTwice i j) s h = record { forms = forms; lines = lines; line = line; not_memory = λ e. cc; shape_ok = s; first = h }
-  family_fault (family.Undecodable g places kernel) s h = record { forms = forms; lines = lines; line = line; not_memory = λ e. cc; shape_ok = s; first = h }
-  family_fault family.Memory s h = tt
+module _ (text : List ℕ) (draft : Draft) (read : read_text text ≡ Ok (so_in draft)) where
+  so : HasSo text (so_in draft)
+  so = so_read text (so_in draft) read
 
--- where no phase is open, all phases are closed
-pub closed_phases : (items : List Item) (phase : Option (Vec Client Global)) (client : Option (Vec Command Global)) → is_some phase ≡ false → items ++ open_phase phase client ≡ items
-closed_phases items None client e = append-nil items
-closed_phases items (Some clients) client e = absurd cc
+  same : script_in draft ≡ (so_of so.forms).script
+  same = ap (λ (x : SoFar). x.script) so.is
 
--- ---- a script that was read
+  line : draft.stage_line ≡ (so_of so.forms).stage_line
+  line = ap (λ (x : SoFar). x.stage_line) so.is
 
-module _ (text : List ℕ) (forms : List Form) (draft : Draft) (families : List NamedFamily) (family : Code)
-    (read : forms_of text ≡ Ok forms) (says : script_in draft ≡ script_of forms) (closed : is_some draft.phase ≡ false)
-    (one : families ≡ record { name = codes "main"; family = family } ∷ [])
-    (is : family ≡ record { shape = record { stages = draft.stages.items; servers = draft.servers }; points = draft.points }) (code : IsCode family) where
-  abbrev read_script : Script
-  read_script = script_with draft.servers draft.chunk families draft.files.items draft.file_families.items draft.items.items
+  shape_told : (fault : ShapeFault) → fault ≢ shape.Memory → shapes.IsFirst draft.stages.items draft.servers fault → IsFault text draft.stage_line (kind.Shape fault)
+  shape_told fault other first = inr (inl (record {
+    fault = fault;
+    is = refl;
+    forms = so.forms;
+    lines = so.lines;
+    line = line;
+    not_memory = other;
+    first = subst (λ s. shapes.IsFirst (main_of s).stages s.servers fault) same first;
+  }))
 
-  blocks : map block_of families ≡ block_in draft ∷ []
-  blocks = ap (map block_of) one ∙ (λ i. record { name = codes "main"; points = (is i).points; stages = (is i).shape.stages } ∷ [])
+  pub shape_fault : (fault : ShapeFault) → shapes.IsFirst draft.stages.items draft.servers fault → IsScriptFault text (record { line = draft.stage_line; kind = shape_kind fault })
+  shape_fault shape.Memory first = inl refl
+  shape_fault shape.NoStage first = inr (shape_told shape.NoStage (λ e. cc) first)
+  shape_fault shape.TooManyStages first = inr (shape_told shape.TooManyStages (λ e. cc) first)
+  shape_fault (shape.Width g) first = inr (shape_told (shape.Width g) (λ e. cc) first)
+  shape_fault (shape.Parities g) first = inr (shape_told (shape.Parities g) (λ e. cc) first)
+  shape_fault (shape.Copies g) first = inr (shape_told (shape.Copies g) (λ e. cc) first)
+  shape_fault (shape.NotMultiple g) first = inr (shape_told (shape.NotMultiple g) (λ e. cc) first)
+  shape_fault (shape.ParitiesGrow g) first = inr (shape_told (shape.ParitiesGrow g) (λ e. cc) first)
+  shape_fault (shape.CopiesGrow g) first = inr (shape_told (shape.CopiesGrow g) (λ e. cc) first)
+  shape_fault (shape.ParitiesOverWidth g) first = inr (shape_told (shape.ParitiesOverWidth g) (λ e. cc) first)
+  shape_fault shape.CopiesDontFit first = inr (shape_told shape.CopiesDontFit (λ e. cc) first)
+  shape_fault (shape.Servers n) first = inr (shape_told (shape.Servers n) (λ e. cc) first)
 
-  said : read_script ≡ script_of forms
-  said =
-      let items : draft.items.items ≡ draft.items.items ++ open_phase draft.phase draft.client = sym (closed_phases draft.items.items draft.phase draft.client closed) in
-      (λ i. record {
-        servers = draft.servers;
-        chunk = draft.chunk;
-        families = blocks i;
-        files = draft.files.items;
-        file_families = draft.file_families.items;
-        items = items i;
-      })
-      ∙ says
+  family_told : (fault : FamilyFault) → fault ≢ family.Memory → IsShape (main_code (script_in draft)).shape → families.IsFault draft.stages.items draft.points fault → IsFault text draft.stage_line (kind.Family fault)
+  family_told fault other ok first = inr (inr (record {
+    fault = fault;
+    is = refl;
+    forms = so.forms;
+    lines = so.lines;
+    line = line;
+    not_memory = other;
+    shape_ok = subst (λ s. IsShape (main_code s).shape) same ok;
+    first = subst (λ s. families.IsFault (main_of s).stages (main_of s).points fault) same first;
+  }))
 
-  pub read_is : IsScript text read_script
-  read_is = record {
-    forms = forms;
-    lines = HasForms-from text forms read;
-    says = said;
-    families = subst (All (λ block. IsCode (code_of read_script block))) (sym blocks)
-        (All-cons (λ block. IsCode (code_of read_script block)) (block_in draft) [] (subst IsCode is code) (All-nil (λ block. IsCode (code_of read_script block))));
-  }
+  pub family_fault : (fault : FamilyFault) → IsShape (main_code (script_in draft)).shape → families.IsFault draft.stages.items draft.points fault → IsScriptFault text (record { line = draft.stage_line; kind = family_kind fault })
+  family_fault family.Memory ok first = inl refl
+  family_fault (family.PointCount n) ok first = inr (family_told (family.PointCount n) (λ e. cc) ok first)
+  family_fault (family.PointZero i) ok first = inr (family_told (family.PointZero i) (λ e. cc) ok first)
+  family_fault (family.PointTwice i j) ok first = inr (family_told (family.PointTwice i j) (λ e. cc) ok first)
+  family_fault (family.Undecodable g places kernel) ok first = inr (family_told (family.Undecodable g places kernel) (λ e. cc) ok first)
 
-  pub read_kept : IsKept families read_script
-  read_kept = record {
-    text = text;
-    is = read_is;
-    over = subst (All (λ (named : NamedFamily). named.family.shape.servers ≡ draft.servers)) (sym one)
-        (All-cons (λ (named : NamedFamily). named.family.shape.servers ≡ draft.servers) (record { name = codes "main"; family = family }) [] (ap (λ (c : Code). c.shape.servers) is) (All-nil (λ (named : NamedFamily). named.family.shape.servers ≡ draft.servers)));
-  }
+  -- ---- a script that was read
+
+  module _ (families : List NamedFamily) (family : Code)
+      (one : families ≡ record { name = codes "main"; family = family } ∷ [])
+      (is : family ≡ record { shape = record { stages = draft.stages.items; servers = draft.servers }; points = draft.points }) (code : IsCode family) where
+    abbrev read_script : Script
+    read_script = script_with draft.servers draft.chunk families draft.files.items draft.file_families.items draft.items.items
+
+    blocks : map block_of families ≡ main_of (script_in draft) ∷ []
+    blocks = ap (map block_of) one ∙ (λ i. record { name = codes "main"; points = (is i).points; stages = (is i).shape.stages } ∷ [])
+
+    said : read_script ≡ (so_of so.forms).script
+    said =
+        (λ i. record {
+          servers = draft.servers;
+          chunk = draft.chunk;
+          families = blocks i;
+          files = draft.files.items;
+          file_families = draft.file_families.items;
+          items = draft.items.items;
+        })
+        ∙ same
+
+    pub read_is : IsScript text read_script
+    read_is = record {
+      forms = so.forms;
+      lines = so.lines;
+      says = said;
+      families = subst (All (λ block. IsCode (code_of read_script block))) (sym blocks)
+          (All-cons (λ block. IsCode (code_of read_script block)) (main_of (script_in draft)) [] (subst IsCode is code) (All-nil (λ block. IsCode (code_of read_script block))));
+    }
+
+    pub read_kept : IsKept families read_script
+    read_kept = record {
+      text = text;
+      is = read_is;
+      over = subst (All (λ (named : NamedFamily). named.family.shape.servers ≡ draft.servers)) (sym one)
+          (All-cons (λ (named : NamedFamily). named.family.shape.servers ≡ draft.servers) (record { name = codes "main"; family = family }) [] (ap (λ (c : Code). c.shape.servers) is) (All-nil (λ (named : NamedFamily). named.family.shape.servers ≡ draft.servers)));
+    }
 
 -- ---- a script has one family, to which every file belongs
 
@@ -113,9 +146,6 @@ pub record HasOne (s : Script) : Type 0 where
   pub file_families : s.file_families ≡ map (λ (file : FileLine). 0) s.files
 
 HasOne-form : (s : Script) (n : ℕ) (form : Form) → HasOne s → HasOne (with_form s n form)
-HasOne-form s n says.Morph h = h
-HasOne-form s n (says.Servers x) h = record { block = h.block; families = h.families; file_families = h.file_families }
-HasOne-form s n (says.Chunk x) h = record { block = h.block; families = h.families; file_families = h.file_families }
 HasOne-form s n (says.Points points) h = record { block = with_points points h.block; families = ap (on_last (with_points points)) h.families; file_families = h.file_families }
 HasOne-form s n (says.Stage stage) h = record { block = with_stage stage h.block; families = ap (on_last (with_stage stage)) h.families; file_families = h.file_families }
 HasOne-form s n (says.File file) h = record {
@@ -123,22 +153,15 @@ HasOne-form s n (says.File file) h = record {
   families = h.families;
   file_families = ap (λ hs. hs ++ 0 ∷ []) h.file_families ∙ sym (map_push (λ (f : FileLine). 0) s.files file);
 }
-HasOne-form s n says.Phase h = record { block = h.block; families = h.families; file_families = h.file_families }
-HasOne-form s n says.Client h = record { block = h.block; families = h.families; file_families = h.file_families }
-HasOne-form s n (says.Create x) h = record { block = h.block; families = h.families; file_families = h.file_families }
-HasOne-form s n (says.Read x) h = record { block = h.block; families = h.families; file_families = h.file_families }
-HasOne-form s n says.End h = h
+HasOne-form s n form h = record { block = h.block; families = h.families; file_families = h.file_families }
 
-HasOne-from : (s : Script) (n : ℕ) (forms : List Form) → HasOne s → HasOne (script_from s n forms)
-HasOne-from s n [] h = h
-HasOne-from s n (form ∷ forms) h = HasOne-from (with_form s n form) (n + 1) forms (HasOne-form s n form h)
-
-HasOne-of : (forms : List Form) → HasOne (script_of forms)
-unfolding script_of
-HasOne-of forms = HasOne-from no_script 1 forms (record { block = no_block; families = refl; file_families = refl })
+HasOne-with : (so : SoFar) (forms : List Form) → HasOne so.script → HasOne (so_with so forms).script
+HasOne-with so [] h = h
+HasOne-with so (form ∷ forms) h = HasOne-with (with_line so form) forms (HasOne-form so.script (so.lines + 1) form h)
 
 pub HasOne-script : (text : List ℕ) (s : Script) → IsScript text s → HasOne s
-HasOne-script text s is = subst HasOne (sym is.says) (HasOne-of is.forms)
+unfolding so_of
+HasOne-script text s is = subst HasOne (sym is.says) (HasOne-with so_before is.forms (record { block = no_block; families = refl; file_families = refl }))
 
 -- ---- the family, and that of a file
 
@@ -193,10 +216,13 @@ printed_text servers chunk families files file_families items = refl
 pub printed : (text : List ℕ) (s : Script) → IsScript text s → IsScript (script_text s) s
 printed text s is = record {
   forms = is.forms;
-  lines = HasForms-from (script_text s) is.forms (ap (λ x. forms_of (script_text x)) is.says ∙ (again text is.forms (forms_of-have text is.forms is.lines)).0);
+  lines = subst (λ x. HasForms (script_text x) is.forms) (sym is.says) (again text is.forms is.lines);
   says = is.says;
   families = is.families;
 }
 
+pub lines_kept : (text : List ℕ) (s : Script) → IsScript text s → lines_of text ≡ lines_of (script_text s)
+lines_kept text s is = sym (subst (λ x. lines_of (script_text x) ≡ lines_of text) (sym is.says) (same_lines text is.forms is.lines))
+
 pub shortest : (text : List ℕ) (s : Script) → IsScript text s → length (script_text s) ≤ length text
-shortest text s is = subst (λ x. length (script_text x) ≤ length text) (sym is.says) (again text is.forms (forms_of-have text is.forms is.lines)).1
+shortest text s is = subst (λ x. length (script_text x) ≤ length text) (sym is.says) (no_longer text is.forms is.lines)

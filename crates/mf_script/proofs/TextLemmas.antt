@@ -6,19 +6,20 @@ use Rattle.std.proofs.lemmas.Grind.{flat_map-append}
 use Rattle.std.proofs.lemmas.List.{append_assoc, append-nil, map_more, take_more}
 use Rattle.mf_text.specs.Decimal.{decimal_text}
 use Rattle.mf_shape.specs.declared.Stage.{Stage}
-use Rattle.mf_script.specs.declared.contents.FileLine.{FileLine}
-use Rattle.mf_script.specs.declared.scripts.Client.{Client}
-use Rattle.mf_script.specs.declared.scripts.Item.{Item}
-use Rattle.mf_script.specs.declared.forms.Form.{Form}
-use Rattle.mf_script.specs.declared.forms.Form.TheVariants as says
-use Rattle.mf_script.specs.declared.scripts.Item.TheVariants as item
-use Rattle.mf_script.specs.declared.families.NamedFamily.{NamedFamily}
-use Rattle.mf_script.specs.Meaning.{Block}
-use Rattle.mf_script.specs.Printing.{line_text, client_forms, item_forms, block_forms, script_forms, script_text}
+use Rattle.mf_lines.specs.declared.parts.FileLine.{FileLine}
+use Rattle.mf_lines.specs.declared.parts.Client.{Client}
+use Rattle.mf_lines.specs.declared.parts.Item.{Item}
+use Rattle.mf_lines.specs.declared.forms.Form.{Form}
+use Rattle.mf_lines.specs.declared.forms.Form.TheVariants as says
+use Rattle.mf_lines.specs.declared.parts.Item.TheVariants as item
+use Rattle.mf_script.specs.declared.script.NamedFamily.{NamedFamily}
+use Rattle.mf_lines.specs.Meaning.{Block}
+use Rattle.mf_lines.specs.LineTexts.{line_text}
+use Rattle.mf_script.specs.Printing.{client_forms, item_forms, block_forms, script_forms, script_text}
 use Rattle.mf_script.specs.Scripts.{block_of, script_with}
-use Rattle.mf_script.specs.Texts.{next_line, lines_text}
-use Rattle.mf_script.specs.Printing.{names_in}
-use Rattle.mf_script.proofs.ContextLemmas.{flat_push}
+use Rattle.mf_script.specs.Printing.{next_line, lines_text}
+use Rattle.mf_lines.specs.Meaning.{names_in}
+use Rattle.mf_script.proofs.Lists.{flat_push}
 
 -- what holds of a call that gave no error, and what follows from it
 pub on_ok-map : {T E : Type 0} (r : Result T E) (P Q : Type 0) → (P → Q) → OnOk r P → OnOk r Q

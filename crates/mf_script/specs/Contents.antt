@@ -1,8 +1,8 @@
 -- The bytes of a file.
 use Rattle.std.specs.Prelude.{ℕ, ◌+◌, ◌%◌, List, [], map}
 use Rattle.std.specs.List.{range_with_len}
-use Rattle.mf_script.specs.declared.contents.Content.{Content}
-use Rattle.mf_script.specs.declared.contents.Content.TheVariants as given
+use Rattle.mf_lines.specs.declared.parts.Content.{Content}
+use Rattle.mf_lines.specs.declared.parts.Content.TheVariants as given
 
 -- n bytes, of which byte x is (x + start) mod 251
 abbrev pub pattern_bytes : ℕ → ℕ → List ℕ

@@ -1,13 +1,13 @@
 -- A script: what contracts see of one, and which text is one.
 use Rattle.std.specs.Prelude.{◌≡◌, ℕ, List, map}
 use Rattle.std.specs.List.{All}
-use Rattle.mf_check.specs.Families.{IsCode}
-use Rattle.mf_script.specs.declared.contents.FileLine.{FileLine}
-use Rattle.mf_script.specs.declared.scripts.Item.{Item}
-use Rattle.mf_script.specs.declared.families.NamedFamily.{NamedFamily}
-use Rattle.mf_script.specs.declared.forms.Form.{Form}
-use Rattle.mf_script.specs.Meaning.{Block, Script, script_of, code_of}
-use Rattle.mf_script.specs.Reading.{HasForms}
+use Rattle.mf_check.specs.Families.{Code, IsCode}
+use Rattle.mf_lines.specs.declared.parts.FileLine.{FileLine}
+use Rattle.mf_lines.specs.declared.parts.Item.{Item}
+use Rattle.mf_lines.specs.declared.forms.Form.{Form}
+use Rattle.mf_lines.specs.Meaning.{Block, Script, so_of}
+use Rattle.mf_script.specs.declared.script.NamedFamily.{NamedFamily}
+use Rattle.mf_script.specs.Texts.{HasForms}
 
 -- what is said of a family
 abbrev pub block_of : NamedFamily → Block
@@ -25,11 +25,15 @@ script_with servers chunk families files file_families items =
       items = items;
     }
 
+-- a family of a script: its stages, over the script's servers, and its points
+abbrev pub code_of : Script → Block → Code
+code_of s block = record { shape = record { stages = block.stages; servers = s.servers }; points = block.points }
+
 -- The text is this script: no line has a fault, the script is what the lines say, and each of its families is accepted.
 pub record IsScript (text : List ℕ) (s : Script) : Type 0 where
   pub forms : List Form
   pub lines : HasForms text forms
-  pub says : s ≡ script_of forms
+  pub says : s ≡ (so_of forms).script
   pub families : All (λ block. IsCode (code_of s block)) s.families
 
 -- what every script keeps: some text is this script, and its families are over its servers

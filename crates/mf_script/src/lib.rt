@@ -1,28 +1,20 @@
 //! Scripts, read from their texts and printed again.
 #![tactic(auto)]
 
-mod before;
-mod checks;
 mod contents;
-mod drafts;
-mod families;
-mod faults;
-mod file_checks;
-mod forms;
-mod kinds;
-mod line_checks;
-mod line_words;
+mod laws;
 mod printing;
 mod reading;
 mod script;
-mod scripts;
-mod split;
 
-pub use contents::{Bytes, Content, FileLine, content_bytes};
-pub use faults::{Kind, ScriptFault};
-pub use kinds::LimitName;
-pub use script::{Script, print_script, read_script};
-pub use scripts::{Act, Client, Clients, Command, Commands, Item};
+pub use contents::content_bytes;
+pub use mf_lines::{
+    Act, Bytes, Client, Clients, Command, Commands, Content, FileLine, Item, Kind, LimitName,
+    ScriptFault, is_name,
+};
+pub use printing::print_script;
+pub use reading::read_script;
+pub use script::Script;
 pub use std::alloc::AllocError as Memory;
 
 #[cfg(test)]

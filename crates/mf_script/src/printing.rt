@@ -1,29 +1,29 @@
 //! The text of a script, written line by line.
 
-ghost use Rattle.std.specs.Prelude.{◌≡◌, ◌∷◌, ◌++◌, [], map, IfOk, OnOk};
+ghost use Rattle.std.specs.Prelude.{◌≡◌, ◌≤◌, ◌∷◌, ◌++◌, [], ℕ, List, length, map, IfOk, OnOk};
 ghost use Rattle.std.specs.List.{flat_map};
 ghost use Rattle.mf_text.specs.Decimal.{decimal_text};
-ghost use Rattle.mf_script.specs.declared.forms.Form.TheVariants as says;
-ghost use Rattle.mf_script.specs.declared.scripts.Item.TheVariants.{Phase};
-ghost use Rattle.mf_script.specs.Printing.{name_at, line_text, script_text};
+ghost use Rattle.mf_text.specs.Lines.{lines_of};
+ghost use Rattle.mf_lines.specs.declared.forms.Form.TheVariants as says;
+ghost use Rattle.mf_lines.specs.Words.{word_text, content_text};
+ghost use Rattle.mf_lines.specs.Meaning.{names_in, verb_of, file_in};
+ghost use Rattle.mf_lines.specs.LineTexts.{name_at, line_text};
 ghost use Rattle.mf_script.specs.Printing.{command_form, client_forms, item_forms, block_forms};
-ghost use Rattle.mf_script.specs.Scripts.{block_of, script_with};
-ghost use Rattle.mf_script.specs.Texts.{next_line, lines_text};
-ghost use Rattle.mf_script.specs.Printing.{names_in};
+ghost use Rattle.mf_script.specs.Printing.{next_line, lines_text, script_text};
+ghost use Rattle.mf_script.specs.Scripts.{block_of, script_with, IsScript};
 
-use crate::contents::{Content, FileLine};
-use crate::families::NamedFamily;
-use crate::scripts::{Act, Client, Command, Item};
+use crate::script::{NamedFamily, Script};
+use mf_lines::{Act, Client, Command, Content, ContentWord, FileLine, Item, LineWord};
 use mf_shape::Stage;
 use mf_text::{push_decimal, push_hex};
 use std::alloc::{AllocError, Global};
 
-// An LF, and a word.
-fn begin(out: &mut Vec<u8>, word: &[u8]) -> Result<(), AllocError>
-    ensures { OnOk result (out.new.items ≡ out.old.items ++ 10 ∷ word.now) }
+// An LF, and the word that a line begins with.
+fn begin(out: &mut Vec<u8>, word: LineWord) -> Result<(), AllocError>
+    ensures { OnOk result (out.new.items ≡ out.old.items ++ 10 ∷ word_text word) }
 {
     out.push(b'\n')?;
-    out.extend_from_slice(word)
+    out.extend_from_slice(word.text())
 }
 
 // A space, and a word.
@@ -43,20 +43,20 @@ fn push_number(out: &mut Vec<u8>, n: u32) -> Result<(), AllocError>
 }
 
 // The line of the servers.
-#[tactic(auto, unfolding(crate::specs::Printing::line_text), using(std::proofs::lemmas::List::append_assoc))]
+#[tactic(auto, unfolding(mf_lines::specs::LineTexts::line_text), using(std::proofs::lemmas::List::append_assoc))]
 fn push_servers(out: &mut Vec<u8>, servers: u32) -> Result<(), AllocError>
     ensures { OnOk result (out.new.items ≡ out.old.items ++ next_line [] (says.Servers servers)) }
 {
-    begin(out, b"servers")?;
+    begin(out, LineWord::Servers)?;
     push_number(out, servers)
 }
 
 // The line of the chunk size.
-#[tactic(auto, unfolding(crate::specs::Printing::line_text), using(std::proofs::lemmas::List::append_assoc))]
+#[tactic(auto, unfolding(mf_lines::specs::LineTexts::line_text), using(std::proofs::lemmas::List::append_assoc))]
 fn push_chunk(out: &mut Vec<u8>, chunk: u32) -> Result<(), AllocError>
     ensures { OnOk result (out.new.items ≡ out.old.items ++ next_line [] (says.Chunk chunk)) }
 {
-    begin(out, b"chunk")?;
+    begin(out, LineWord::Chunk)?;
     push_number(out, chunk)
 }
 
@@ -64,7 +64,7 @@ fn push_chunk(out: &mut Vec<u8>, chunk: u32) -> Result<(), AllocError>
 fn push_points(out: &mut Vec<u8>, points: &[u8]) -> Result<(), AllocError>
     ensures { OnOk result (out.new.items ≡ out.old.items ++ next_line [] (says.Points points.now)) }
 {
-    begin(out, b"points")?;
+    begin(out, LineWord::Points)?;
     for point in points {
         push_number(out, u32::from(*point))?;
     }
@@ -72,35 +72,36 @@ fn push_points(out: &mut Vec<u8>, points: &[u8]) -> Result<(), AllocError>
 }
 
 // The line of a stage.
-#[tactic(auto, unfolding(crate::specs::Printing::line_text), using(std::proofs::lemmas::List::append_assoc))]
+#[tactic(auto, unfolding(mf_lines::specs::LineTexts::line_text), using(std::proofs::lemmas::List::append_assoc))]
 fn push_stage(out: &mut Vec<u8>, stage: Stage) -> Result<(), AllocError>
     ensures { OnOk result (out.new.items ≡ out.old.items ++ next_line [] (says.Stage stage)) }
 {
-    begin(out, b"stage")?;
+    begin(out, LineWord::Stage)?;
     push_number(out, stage.width)?;
     push_number(out, stage.parities)?;
     push_number(out, stage.copies)
 }
 
 // The line of a file.
-#[tactic(auto, unfolding(crate::specs::Printing::line_text), using(std::proofs::lemmas::List::append_assoc))]
+#[tactic(auto, unfolding(mf_lines::specs::LineTexts::line_text), using(std::proofs::lemmas::List::append_assoc))]
 fn push_file(out: &mut Vec<u8>, file: &FileLine) -> Result<(), AllocError>
     ensures { OnOk result (out.new.items ≡ out.old.items ++ next_line [] (says.File file.now)) }
 {
-    begin(out, b"file")?;
+    begin(out, LineWord::File)?;
     push_word(out, file.name.as_slice())?;
     match &file.content {
-        Content::Empty => push_word(out, b"empty"),
+        Content::Empty => push_word(out, ContentWord::Empty.text()),
         Content::Text(bytes) => {
-            push_word(out, b"text")?;
+            push_word(out, ContentWord::Text.text())?;
             push_word(out, bytes.as_slice())
         }
         Content::Hex(bytes) => {
-            push_word(out, b"hex ")?;
+            push_word(out, ContentWord::Hex.text())?;
+            out.push(b' ')?;
             push_hex(out, bytes.as_slice())
         }
         Content::Pattern { length, start } => {
-            push_word(out, b"pattern")?;
+            push_word(out, ContentWord::Pattern.text())?;
             push_number(out, *length)?;
             push_number(out, *start)
         }
@@ -118,21 +119,13 @@ fn name_of(files: &[FileLine], file: u32) -> &[u8]
 }
 
 // The line of a command.
-#[tactic(auto, unfolding(crate::specs::Printing::line_text), using(std::proofs::lemmas::List::append_assoc))]
-fn push_command(out: &mut Vec<u8>, files: &[FileLine], command: Command) -> Result<(), AllocError>
+#[tactic(auto, unfolding(mf_lines::specs::LineTexts::line_text), using(std::proofs::lemmas::List::append_assoc))]
+fn push_command(out: &mut Vec<u8>, files: &[FileLine], act: Act) -> Result<(), AllocError>
     ensures { OnOk result
-        (out.new.items ≡ out.old.items ++ next_line (names_in files.now) (command_form command)) }
+        (out.new.items ≡ out.old.items ++ next_line (names_in files.now) (says.Command act)) }
 {
-    match command.act {
-        Act::Create(file) => {
-            begin(out, b"create")?;
-            push_word(out, name_of(files, file))
-        }
-        Act::Read { file, .. } => {
-            begin(out, b"read")?;
-            push_word(out, name_of(files, file))
-        }
-    }
+    begin(out, LineWord::Command(act.verb()))?;
+    push_word(out, name_of(files, act.file()))
 }
 
 // The lines of the stages.
@@ -184,20 +177,11 @@ fn push_client(out: &mut Vec<u8>, files: &[FileLine], client: &Client) -> Result
         (out.new.items ≡ out.old.items
         ++ lines_text (names_in files.now) (client_forms client.now)) }
 {
-    begin(out, b"client")?;
+    begin(out, LineWord::Client)?;
     for command in client.commands.as_slice() {
-        push_command(out, files, *command)?;
+        push_command(out, files, command.act)?;
     }
     Ok(())
-}
-
-// The clients of a phase.
-fn clients_of(item: &Item) -> &[Client]
-    ensures { item.now ≡ Phase result.now }
-{
-    match item {
-        Item::Phase(clients) => clients.as_slice(),
-    }
 }
 
 // The lines of an item.
@@ -205,8 +189,8 @@ fn push_item(out: &mut Vec<u8>, files: &[FileLine], item: &Item) -> Result<(), A
     ensures { OnOk result
         (out.new.items ≡ out.old.items ++ lines_text (names_in files.now) (item_forms item.now)) }
 {
-    begin(out, b"phase")?;
-    for client in clients_of(item) {
+    begin(out, LineWord::Phase)?;
+    for client in item.clients() {
         push_client(out, files, client)?;
     }
     Ok(())
@@ -224,8 +208,8 @@ fn push_items(out: &mut Vec<u8>, files: &[FileLine], items: &[Item]) -> Result<(
     Ok(())
 }
 
-/// The text of a script of these parts: each line but the last ends with LF.
-pub fn print(
+// The text of a script of these parts.
+fn print(
     alloc: Global,
     servers: u32,
     chunk: u32,
@@ -243,6 +227,26 @@ pub fn print(
     push_families(&mut out, families)?;
     push_files(&mut out, files)?;
     push_items(&mut out, files, items)?;
-    begin(&mut out, b"end")?;
+    begin(&mut out, LineWord::End)?;
     Ok(out)
+}
+
+/// The text of a script: each line but the last ends with LF. It is read as the same script; every text that is read so
+/// has its lines, and so none is shorter. Fails only where memory runs out.
+pub fn print_script(alloc: Global, script: &Script) -> Result<Vec<u8>, AllocError>
+    ensures text { IfOk result (λ v. v.items ≡ script_text script.now) }
+    ensures again { IfOk result (λ v. IsScript v.items script.now) }
+    ensures lines { IfOk result
+        (λ v. (text : List ℕ) → IsScript text script.now → lines_of text ≡ lines_of v.items) }
+    ensures short { IfOk result
+        (λ v. (text : List ℕ) → IsScript text script.now → length v.items ≤ length text) }
+{
+    print(
+        alloc,
+        script.servers,
+        script.chunk,
+        &script.families,
+        &script.files,
+        &script.items,
+    )
 }

@@ -463,7 +463,7 @@ fn a_script_has_what_its_lines_say(rt: HostRuntime) -> Result<(), Fail> {
         read.act,
         Act::Read {
             file: 3,
-            away: Servers { bits: 0 }
+            away: Servers::none()
         }
     );
     Ok(())

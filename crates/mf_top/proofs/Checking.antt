@@ -1,9 +1,9 @@
 -- What is answered to a text whose family is tried.
-use Rattle.std.proofs.Common.{◌≡◌, ◌≢◌, ℕ, ◌<◌, List, length, sym, subst, refl, inl}
-use Rattle.mf_script.specs.declared.kinds.LimitName.TheVariants as limit
-use Rattle.mf_script.specs.declared.faults.Kind.TheVariants as kind
-use Rattle.mf_script.specs.declared.faults.ScriptFault.{ScriptFault}
-use Rattle.mf_script.specs.Meaning.{Script, main_of}
+use Rattle.std.proofs.Common.{◌≡◌, ◌≢◌, ℕ, ◌<◌, List, length, sym, subst, refl, inl, inr}
+use Rattle.mf_lines.specs.declared.parts.LimitName.TheVariants as limit
+use Rattle.mf_lines.specs.declared.parts.Kind.TheVariants as kind
+use Rattle.mf_lines.specs.declared.parts.ScriptFault.{ScriptFault}
+use Rattle.mf_lines.specs.Meaning.{Script, main_of}
 use Rattle.mf_script.specs.Faults.{IsScriptFault}
 use Rattle.mf_script.specs.Scripts.{IsScript}
 use Rattle.mf_verdict.specs.Verdicts.{accepted_text, refused_text}
@@ -12,7 +12,7 @@ use Rattle.mf_top.specs.Answers.{task_words, IsRefused, IsAnswer, accepted, refu
 
 -- a text with too many bytes is refused as a whole
 pub long_fault : (text : List ℕ) → 1048576 < length text → IsRefused text (record { line = 0; kind = kind.Limit limit.Text })
-long_fault text long = record { fault_of_text = inl (record { long = long; number = refl; is = refl }); not_memory = λ e. cc }
+long_fault text long = record { fault_of_text = inr (inl (inl (record { long = long; number = refl; is = refl }))); not_memory = λ e. cc }
 
 -- the family of a script that was read was accepted, in this line
 pub accepted_read : (text answer : List ℕ) (s : Script) → IsScript text s → answer ≡ accepted_text (main_of s).stages → IsAnswer (task_words Check) text 0 answer

@@ -2,10 +2,10 @@
 use Rattle.std.specs.Prelude.{◌≡◌, ◌≢◌, ℕ, List, [], ◌∷◌, codes}
 use Rattle.mf_words.specs.Report.{report_text}
 use Rattle.mf_words.specs.Refusals.{script_refusal, words_refusal}
-use Rattle.mf_script.specs.declared.faults.Kind.TheVariants as kind
-use Rattle.mf_script.specs.declared.faults.ScriptFault.{ScriptFault}
+use Rattle.mf_lines.specs.declared.parts.Kind.TheVariants as kind
+use Rattle.mf_lines.specs.declared.parts.ScriptFault.{ScriptFault}
 use Rattle.mf_first.specs.FirstForm.{FirstScript, IsFirst}
-use Rattle.mf_script.specs.Meaning.{Script, main_of}
+use Rattle.mf_lines.specs.Meaning.{Script, main_of}
 use Rattle.mf_script.specs.Faults.{IsScriptFault}
 use Rattle.mf_script.specs.Scripts.{IsScript}
 use Rattle.mf_verdict.specs.Texts.{kind_text}

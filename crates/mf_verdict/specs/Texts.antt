@@ -6,10 +6,10 @@ use Rattle.mf_shape.specs.declared.ShapeFault.{ShapeFault}
 use Rattle.mf_shape.specs.declared.ShapeFault.TheVariants as shape
 use Rattle.mf_check.specs.declared.FamilyFault.{FamilyFault}
 use Rattle.mf_check.specs.declared.FamilyFault.TheVariants as family
-use Rattle.mf_script.specs.declared.kinds.LimitName.{LimitName}
-use Rattle.mf_script.specs.declared.kinds.LimitName.TheVariants as limit
-use Rattle.mf_script.specs.declared.faults.Kind.{Kind}
-use Rattle.mf_script.specs.declared.faults.Kind.TheVariants as kind
+use Rattle.mf_lines.specs.declared.parts.LimitName.{LimitName}
+use Rattle.mf_lines.specs.declared.parts.LimitName.TheVariants as limit
+use Rattle.mf_lines.specs.declared.parts.Kind.{Kind}
+use Rattle.mf_lines.specs.declared.parts.Kind.TheVariants as kind
 
 -- the names of limits
 abbrev pub limit_text : LimitName → List ℕ

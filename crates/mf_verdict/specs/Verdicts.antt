@@ -2,7 +2,7 @@
 use Rattle.std.specs.Prelude.{ℕ, ◌+◌, List, ◌++◌, codes, length}
 use Rattle.std.specs.List.{flat_map}
 use Rattle.mf_shape.specs.declared.Stage.{Stage}
-use Rattle.mf_script.specs.declared.faults.ScriptFault.{ScriptFault}
+use Rattle.mf_lines.specs.declared.parts.ScriptFault.{ScriptFault}
 use Rattle.mf_words.specs.Lines.{ended, spaced}
 use Rattle.mf_words.specs.Refusals.{script_refusal}
 use Rattle.mf_verdict.specs.Texts.{kind_text}

@@ -1,5 +1,5 @@
 use Rattle.std.proofs.Common.{◌≡◌, ◌++◌, take, flat_map}
-use Rattle.mf_script.specs.Printing.{names_in}
+use Rattle.mf_lines.specs.Meaning.{names_in}
 use Rattle.mf_report.specs.Commands.{done_text}
 use Rattle.mf_report.proofs.commands.push_commands.Given as goal
 

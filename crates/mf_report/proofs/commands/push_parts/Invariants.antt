@@ -1,5 +1,5 @@
 use Rattle.std.proofs.Common.{◌≡◌, ◌++◌, take, flat_map}
-use Rattle.mf_script.specs.Printing.{names_in}
+use Rattle.mf_lines.specs.Meaning.{names_in}
 use Rattle.mf_report.specs.Lines.{ended}
 use Rattle.mf_report.specs.Commands.{part_line}
 use Rattle.mf_report.proofs.commands.push_parts.Given as goal

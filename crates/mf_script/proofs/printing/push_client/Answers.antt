@@ -1,9 +1,9 @@
 use Rattle.std.proofs.Common.{◌++◌, ◌∷◌, ◌∙◌, sym, ap, map, take}
 use Rattle.std.proofs.lemmas.List.{map_more}
-use Rattle.mf_script.specs.declared.forms.Form.TheVariants as says
+use Rattle.mf_lines.specs.declared.forms.Form.TheVariants as says
 use Rattle.mf_script.specs.Printing.{command_form}
-use Rattle.mf_script.specs.Texts.{lines_text}
-use Rattle.mf_script.specs.Printing.{names_in}
+use Rattle.mf_script.specs.Printing.{lines_text}
+use Rattle.mf_lines.specs.Meaning.{names_in}
 use Rattle.mf_script.proofs.TextLemmas.{add_form, client_start}
 use Rattle.mf_script.proofs.printing.push_client.Goals as goal
 

@@ -1,8 +1,8 @@
 use Rattle.std.proofs.Common.{◌≡◌, ◌++◌, ◌∷◌, map, take}
-use Rattle.mf_script.specs.declared.forms.Form.TheVariants as says
+use Rattle.mf_lines.specs.declared.forms.Form.TheVariants as says
 use Rattle.mf_script.specs.Printing.{command_form}
-use Rattle.mf_script.specs.Texts.{lines_text}
-use Rattle.mf_script.specs.Printing.{names_in}
+use Rattle.mf_script.specs.Printing.{lines_text}
+use Rattle.mf_lines.specs.Meaning.{names_in}
 use Rattle.mf_script.proofs.printing.push_client.Given as goal
 
 abbrev pub invariant-loop-command : goal.invariant-loop-command

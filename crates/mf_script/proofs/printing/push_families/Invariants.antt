@@ -2,7 +2,7 @@ use Rattle.std.proofs.Common.{◌≡◌, ◌++◌, [], map, take}
 use Rattle.std.specs.List.{flat_map}
 use Rattle.mf_script.specs.Printing.{block_forms}
 use Rattle.mf_script.specs.Scripts.{block_of}
-use Rattle.mf_script.specs.Texts.{lines_text}
+use Rattle.mf_script.specs.Printing.{lines_text}
 use Rattle.mf_script.proofs.printing.push_families.Given as goal
 
 abbrev pub invariant-loop-named : goal.invariant-loop-named

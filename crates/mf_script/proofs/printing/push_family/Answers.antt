@@ -1,7 +1,7 @@
 use Rattle.std.proofs.Common.{◌++◌, [], ◌∙◌, ap, map}
-use Rattle.mf_script.specs.declared.forms.Form.TheVariants as says
+use Rattle.mf_lines.specs.declared.forms.Form.TheVariants as says
 use Rattle.mf_script.specs.Scripts.{block_of}
-use Rattle.mf_script.specs.Texts.{next_line, lines_text}
+use Rattle.mf_script.specs.Printing.{next_line, lines_text}
 use Rattle.mf_script.proofs.TextLemmas.{on_ok-map, block_lines}
 use Rattle.mf_script.proofs.printing.push_family.Goals as goal
 

@@ -1,8 +1,8 @@
 use Rattle.std.proofs.Common.{◌≡◌, ◌++◌, take}
-use Rattle.mf_script.specs.declared.scripts.Item.TheVariants as item
+use Rattle.mf_lines.specs.declared.parts.Item.TheVariants as item
 use Rattle.mf_script.specs.Printing.{item_forms}
-use Rattle.mf_script.specs.Texts.{lines_text}
-use Rattle.mf_script.specs.Printing.{names_in}
+use Rattle.mf_script.specs.Printing.{lines_text}
+use Rattle.mf_lines.specs.Meaning.{names_in}
 use Rattle.mf_script.proofs.printing.push_item.Given as goal
 
 abbrev pub invariant-loop-client : goal.invariant-loop-client

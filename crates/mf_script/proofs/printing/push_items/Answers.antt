@@ -1,8 +1,8 @@
 use Rattle.std.proofs.Common.{◌++◌, ◌∙◌, ap, take}
 use Rattle.std.specs.List.{flat_map}
 use Rattle.mf_script.specs.Printing.{item_forms}
-use Rattle.mf_script.specs.Texts.{lines_text}
-use Rattle.mf_script.specs.Printing.{names_in}
+use Rattle.mf_script.specs.Printing.{lines_text}
+use Rattle.mf_lines.specs.Meaning.{names_in}
 use Rattle.mf_script.proofs.TextLemmas.{none_yet, add_forms, item_step}
 use Rattle.mf_script.proofs.printing.push_items.Goals as goal
 

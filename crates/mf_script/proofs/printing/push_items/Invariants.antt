@@ -1,8 +1,8 @@
 use Rattle.std.proofs.Common.{◌≡◌, ◌++◌, take}
 use Rattle.std.specs.List.{flat_map}
 use Rattle.mf_script.specs.Printing.{item_forms}
-use Rattle.mf_script.specs.Texts.{lines_text}
-use Rattle.mf_script.specs.Printing.{names_in}
+use Rattle.mf_script.specs.Printing.{lines_text}
+use Rattle.mf_lines.specs.Meaning.{names_in}
 use Rattle.mf_script.proofs.printing.push_items.Given as goal
 
 abbrev pub invariant-loop-item : goal.invariant-loop-item

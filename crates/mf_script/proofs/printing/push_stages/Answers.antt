@@ -1,7 +1,7 @@
 use Rattle.std.proofs.Common.{◌++◌, [], ◌∙◌, sym, ap, map, take}
 use Rattle.std.proofs.lemmas.List.{map_more}
-use Rattle.mf_script.specs.declared.forms.Form.TheVariants as says
-use Rattle.mf_script.specs.Texts.{lines_text}
+use Rattle.mf_lines.specs.declared.forms.Form.TheVariants as says
+use Rattle.mf_script.specs.Printing.{lines_text}
 use Rattle.mf_script.proofs.TextLemmas.{none_yet, add_form}
 use Rattle.mf_script.proofs.printing.push_stages.Goals as goal
 

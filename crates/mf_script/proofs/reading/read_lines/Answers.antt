@@ -1,28 +1,26 @@
-use Rattle.std.proofs.Common.{◌∙◌, sym, refl, length}
+use Rattle.std.proofs.Common.{◌∙◌, sym, length}
 use Rattle.std.proofs.lemmas.Bool.{eqb-true}
-use Rattle.mf_script.proofs.ReadingLemmas.{Reading-start, Reading-aligned, Reading-next, Reading-refused, Reading-done, Reading-ended}
+use Rattle.mf_script.proofs.ReadingLemmas.{Reading-start, Reading-next, Reading-refused, Reading-end}
 use Rattle.mf_script.proofs.reading.read_lines.Goals as goal
 
 pub loop-rest-init : goal.loop-rest-init
-loop-rest-init c = Reading-start c.args.text.now _ c.new.ensures c.new-2.ensures.script c.new-2.ensures.phase c.new-2.ensures.client refl
-
-pub add-requires : goal.add-requires
-add-requires c = Reading-aligned c.args.text.now c.loop-rest.rest.now c.loop-rest.reader c.loop-rest.invariant c.requires
+loop-rest-init c = Reading-start c.args.text.now c.new-draft.result c.new-draft.ensures.so c.new-draft.ensures.draft
 
 pub returns-in-Err : goal.returns-in-Err
-returns-in-Err c = Reading-refused c.args.text.now c.loop-rest.rest.now c.loop-rest.reader c.first_line-len.result.0 c.first_line-len.result.1 c.in-Err.kind c.loop-rest.invariant c.first_line-len.ensures.first c.in-Err.ensures.fault
+returns-in-Err c =
+    Reading-refused c.args.text.now c.loop-rest.rest.now c.loop-rest.draft c.first_line-len.result.0 c.first_line-len.result.1 c.in-Err.kind c.loop-rest.invariant c.first_line-len.ensures.first c.in-Err.ensures.fault
 
 pub loop-rest-preserved : goal.loop-rest-preserved
 loop-rest-preserved c =
-    Reading-next c.args.text.now c.loop-rest.rest.now c.loop-rest.reader c.add.new.self c.first_line-len.result.0 c.first_line-len.result.1 c.loop-rest.invariant c.first_line-len.ensures.first
-    c.first_line-len.ensures.bounded c.first_line-len.ensures.progress c.in_default.ensures.added
+    Reading-next c.args.text.now c.loop-rest.rest.now c.loop-rest.draft c.add_line.new.self c.first_line-len.result.0 c.first_line-len.result.1 c.loop-rest.invariant c.first_line-len.ensures.first
+    c.first_line-len.ensures.bounded c.first_line-len.ensures.progress c.in_default.ensures.line c.in_default.ensures.draft
 
 pub returns-in-None : goal.returns-in-None
 returns-in-None c =
     let none = eqb-true (length c.loop-rest.rest.now) 0 (sym c.is_empty.ensures ∙ c.loop-rest-test.false) in
-    Reading-done c.args.text.now c.loop-rest.rest.now c.loop-rest.reader c.loop-rest.invariant none (sym c.end_fault.ensures ∙ c.in-None.is)
+    Reading-end c.args.text.now c.loop-rest.rest.now c.loop-rest.draft _ c.loop-rest.invariant none (sym c.end_fault.ensures ∙ c.in-None.is)
 
 pub returns-in-Some : goal.returns-in-Some
-returns-in-Some c =
+returns-in-Some c _ =
     let none = eqb-true (length c.loop-rest.rest.now) 0 (sym c.is_empty.ensures ∙ c.loop-rest-test.false) in
-    Reading-ended c.args.text.now c.loop-rest.rest.now c.loop-rest.reader c.in-Some.kind c.loop-rest.invariant none (sym c.end_fault.ensures ∙ c.in-Some.is)
+    Reading-end c.args.text.now c.loop-rest.rest.now c.loop-rest.draft _ c.loop-rest.invariant none (sym c.end_fault.ensures ∙ c.in-Some.is)

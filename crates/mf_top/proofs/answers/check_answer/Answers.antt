@@ -1,7 +1,7 @@
 use Rattle.std.proofs.Common.{◌≢◌, false, IsTrue, ap, ◌∙◌}
 use Rattle.mf_shape.specs.Chain.{Chain}
 use Rattle.mf_check.specs.Families.{Code}
-use Rattle.mf_script.specs.declared.faults.Kind.TheVariants as kind
+use Rattle.mf_lines.specs.declared.parts.Kind.TheVariants as kind
 use Rattle.mf_verdict.specs.Verdicts.{accepted_text}
 use Rattle.mf_top.proofs.Checking.{accepted_read, refused_read}
 use Rattle.mf_top.proofs.answers.check_answer.Goals as goal

@@ -1,6 +1,6 @@
 use Rattle.std.proofs.Common.{sym, subst, codes}
-use Rattle.mf_script.specs.declared.kinds.LimitName.TheVariants as limit
-use Rattle.mf_script.specs.declared.faults.Kind.TheVariants as kind
+use Rattle.mf_lines.specs.declared.parts.LimitName.TheVariants as limit
+use Rattle.mf_lines.specs.declared.parts.Kind.TheVariants as kind
 use Rattle.mf_top.specs.declared.Task.TheVariants.{Run, Check}
 use Rattle.mf_top.specs.Answers.{task_words, IsAnswer, no_script, refused}
 use Rattle.mf_top.proofs.Ending.{long_is_no_script, whole_refusal}

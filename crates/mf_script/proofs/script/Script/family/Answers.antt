@@ -1,6 +1,7 @@
 use Rattle.std.proofs.Common.{◌<◌, ◌∙◌, sym, ap, subst, length, get_or}
-use Rattle.mf_script.specs.declared.families.NamedFamily.{NamedFamily}
-use Rattle.mf_script.specs.Meaning.{Script, main_of, code_of}
+use Rattle.mf_script.specs.declared.script.NamedFamily.{NamedFamily}
+use Rattle.mf_lines.specs.Meaning.{Script, main_of}
+use Rattle.mf_script.specs.Scripts.{code_of}
 use Rattle.mf_script.proofs.ScriptLemmas.{HasOne-script, has_main, main_is}
 use Rattle.mf_script.proofs.script.Script.family.Goals as goal
 

@@ -1,7 +1,7 @@
 use Rattle.std.proofs.Common.{◌≡◌, ◌<◌, ℕ, ◌∙◌, sym, ap, subst, List, length, map, arith}
 use Rattle.std.specs.Prelude.{slice_index}
 use Rattle.std.proofs.lemmas.List.{length-map}
-use Rattle.mf_script.specs.Meaning.{Script}
+use Rattle.mf_lines.specs.Meaning.{Script}
 use Rattle.mf_script.specs.Scripts.{block_of}
 use Rattle.mf_script.proofs.ScriptLemmas.{HasOne-script, has_main, home_within, home_is}
 use Rattle.mf_script.proofs.script.Script.family_of.Goals as goal

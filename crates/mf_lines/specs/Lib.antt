@@ -1,0 +1,6 @@
+pub mod Names
+pub mod Words
+pub mod Meaning
+pub mod Lines
+pub mod LineTexts
+pub mod Drafts

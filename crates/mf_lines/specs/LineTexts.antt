@@ -1,0 +1,47 @@
+-- The text of a line.
+use Rattle.std.specs.Prelude.{ℕ, List, [], ◌∷◌, map, slice_index_or, codes}
+use Rattle.std.specs.List.{join_with_byte}
+use Rattle.mf_text.specs.Decimal.{decimal_text}
+use Rattle.mf_text.specs.Hex.{hex_text}
+use Rattle.mf_lines.specs.declared.parts.Content.{Content}
+use Rattle.mf_lines.specs.declared.parts.Content.TheVariants as given
+use Rattle.mf_lines.specs.declared.words.ContentWord.{ContentWord}
+use Rattle.mf_lines.specs.declared.words.ContentWord.TheVariants as content
+use Rattle.mf_lines.specs.declared.forms.Form.{Form}
+use Rattle.mf_lines.specs.declared.forms.Form.TheVariants as says
+use Rattle.mf_lines.specs.Words.{word_text, content_text}
+use Rattle.mf_lines.specs.Meaning.{first_word, file_in}
+
+-- the word that says how the bytes of a file are given
+abbrev pub content_word : Content → ContentWord
+content_word given.Empty = content.Empty
+content_word (given.Text bytes) = content.Text
+content_word (given.Hex bytes) = content.Hex
+content_word (given.Pattern n start) = content.Pattern
+
+-- what stands behind that word
+abbrev pub behind_content : Content → List (List ℕ)
+behind_content given.Empty = []
+behind_content (given.Text bytes) = bytes ∷ []
+behind_content (given.Hex bytes) = hex_text bytes ∷ []
+behind_content (given.Pattern n start) = decimal_text n ∷ decimal_text start ∷ []
+
+-- the name of a file
+abbrev pub name_at : List (List ℕ) → ℕ → List ℕ
+name_at names n = slice_index_or names n []
+
+-- what stands behind a line's first word
+abbrev pub behind_word : List (List ℕ) → Form → List (List ℕ)
+behind_word names says.Morph = codes "1" ∷ []
+behind_word names (says.Servers n) = decimal_text n ∷ []
+behind_word names (says.Chunk n) = decimal_text n ∷ []
+behind_word names (says.Points points) = map decimal_text points
+behind_word names (says.Stage stage) =
+    decimal_text stage.width ∷ decimal_text stage.parities ∷ decimal_text stage.copies ∷ []
+behind_word names (says.File file) = file.name ∷ content_text (content_word file.content) ∷ behind_content file.content
+behind_word names (says.Command act) = name_at names (file_in act) ∷ []
+behind_word names form = []
+
+-- a line of this form: its first word and what stands behind it, with one space between each two
+unfoldable pub line_text : List (List ℕ) → Form → List ℕ
+line_text names form = join_with_byte 32 (word_text (first_word form) ∷ behind_word names form)

@@ -1,0 +1,264 @@
+-- What a line says behind those before it, or the kind of its fault. In each line the kinds are tried in their order:
+-- text, header, unknown, arity, number, limit, twice, nofile, noserver, order; and limits in the order of their names.
+use Rattle.std.specs.Prelude.{◌≡◌, ◌≢◌, ℕ, ◌==◌, ◌&&◌, ◌||◌, not, nat_lt, nat_le, Bool, true, false, if◌then◌else◌, List, [], ◌∷◌}
+use Rattle.std.specs.Prelude.{length, Option, Some, None, Result, Ok, Err, codes, ok_or, position, Vec}
+use Rattle.std.specs.Global.{Global}
+use Rattle.std.specs.Int.{div_ceil}
+use Rattle.std.specs.List.{list_any, join_with_byte}
+use Rattle.std.specs.Str.{bytes_eq}
+use Rattle.mf_text.specs.Lines.{is_clean}
+use Rattle.mf_text.specs.Words.{words_of}
+use Rattle.mf_text.specs.Hex.{hex_of}
+use Rattle.mf_places.specs.Servers.{no_servers}
+use Rattle.mf_lines.specs.declared.parts.Kind.{Kind}
+use Rattle.mf_lines.specs.declared.parts.Kind.TheVariants as kind
+use Rattle.mf_lines.specs.declared.parts.LimitName.{LimitName}
+use Rattle.mf_lines.specs.declared.parts.LimitName.TheVariants as limit
+use Rattle.mf_lines.specs.declared.parts.Content.{Content}
+use Rattle.mf_lines.specs.declared.parts.Content.TheVariants as given
+use Rattle.mf_lines.specs.declared.parts.Act.{Act}
+use Rattle.mf_lines.specs.declared.parts.Act.TheVariants as act
+use Rattle.mf_lines.specs.declared.words.Verb.{Verb}
+use Rattle.mf_lines.specs.declared.words.Verb.TheVariants as verb
+use Rattle.mf_lines.specs.declared.words.LineWord.{LineWord}
+use Rattle.mf_lines.specs.declared.words.LineWord.TheVariants as word
+use Rattle.mf_lines.specs.declared.words.ContentWord.{ContentWord}
+use Rattle.mf_lines.specs.declared.words.ContentWord.TheVariants as content
+use Rattle.mf_lines.specs.declared.forms.Form.{Form}
+use Rattle.mf_lines.specs.declared.forms.Form.TheVariants as says
+use Rattle.mf_lines.specs.Names.{is_name}
+use Rattle.mf_lines.specs.Words.{◌>>=◌, refuse, word_of, content_word_of, no_words, one_word, two_words, three_words}
+use Rattle.mf_lines.specs.Words.{spelled, small, number_in}
+use Rattle.mf_lines.specs.Meaning.{SoFar, names_in, last_clients}
+
+-- it was read so, or memory ran out
+abbrev pub Says : {A : Type 0} → Result A Kind → Result A Kind → Type 0
+Says (Ok x) read = read ≡ Ok x
+Says (Err k) read = k ≢ kind.Memory → read ≡ Err k
+
+-- the same of a list of numbers
+abbrev pub SaysList : Result (Vec ℕ Global) Kind → Result (List ℕ) Kind → Type 0
+SaysList (Ok v) read = read ≡ Ok v.items
+SaysList (Err k) read = k ≢ kind.Memory → read ≡ Err k
+
+-- the first limit that is passed, if one is
+abbrev pub within : List (Bool × LimitName) → Result (Unit {0}) Kind
+within [] = Ok tt
+within (l ∷ limits) = if l.0 then Err (kind.Limit l.1) else within limits
+
+-- ---- the lines of the store
+
+-- `servers S`
+abbrev pub servers_form : List (List ℕ) → Result Form Kind
+servers_form words = do
+  word ← one_word words
+  n ← number_in word
+  Ok (says.Servers n)
+
+-- `chunk B`
+abbrev pub chunk_form : List (List ℕ) → Result Form Kind
+chunk_form words = do
+  word ← one_word words
+  size ← number_in word
+  _ ← within ((size == 0 || nat_lt 65536 size, limit.Chunk) ∷ [])
+  Ok (says.Chunk size)
+
+-- the numbers that these words spell
+abbrev pub numbers_in : List (List ℕ) → Result (List ℕ) Kind
+numbers_in [] = Ok []
+numbers_in (word ∷ words) = do
+  n ← spelled word
+  more ← numbers_in words
+  Ok (n ∷ more)
+
+-- a number above this
+abbrev pub is_above : ℕ → ℕ → Bool
+is_above most n = nat_lt most n
+
+-- numbers that are one to four points
+abbrev pub points_in : List ℕ → Result Form Kind
+points_in points = do
+  _ ← within (
+      (list_any (is_above 4294967295) points, limit.Number)
+      ∷ (list_any (is_above 255) points, limit.Point)
+      ∷ (nat_lt 4 (length points), limit.Points)
+      ∷ [])
+  Ok (says.Points points)
+
+-- `points P ..`
+abbrev pub points_form : List (List ℕ) → Result Form Kind
+points_form [] = Err kind.Arity
+points_form words = numbers_in words >>= points_in
+
+-- `stage K R C`
+abbrev pub stage_form : List (List ℕ) → Result Form Kind
+stage_form words = do
+  three ← three_words words
+  width ← spelled three.0
+  parities ← spelled three.1
+  copies ← spelled three.2
+  width ← small width
+  parities ← small parities
+  copies ← small copies
+  Ok (says.Stage (record { width = width; parities = parities; copies = copies }))
+
+-- ---- file lines
+
+-- whether one of the names is this one
+abbrev pub has_name : List (List ℕ) → List ℕ → Bool
+has_name names name = list_any (bytes_eq name) names
+
+-- the number of the file of this name
+abbrev pub file_number : List (List ℕ) → List ℕ → Option ℕ
+file_number names name = position (bytes_eq name) names
+
+-- the rest of the line: at least one byte
+abbrev pub text_in : List (List ℕ) → Result Content Kind
+text_in [] = Err kind.Arity
+text_in ([] ∷ []) = Err kind.Arity
+text_in words = Ok (given.Text (join_with_byte 32 words))
+
+-- a word of hexadecimal digits
+abbrev pub hex_in : List (List ℕ) → Result Content Kind
+hex_in words = do
+  word ← one_word words
+  bytes ← ok_or (hex_of word) kind.Number
+  Ok (given.Hex bytes)
+
+-- a length and a start
+abbrev pub pattern_in : List (List ℕ) → Result Content Kind
+pattern_in words = do
+  two ← two_words words
+  n ← spelled two.0
+  start ← spelled two.1
+  n ← small n
+  start ← small start
+  Ok (given.Pattern n start)
+
+-- how a file's bytes are given, by what stands behind the content word
+abbrev pub content_in : ContentWord → List (List ℕ) → Result Content Kind
+content_in content.Empty words = no_words words >>= λ _. Ok given.Empty
+content_in content.Text words = text_in words
+content_in content.Hex words = hex_in words
+content_in content.Pattern words = pattern_in words
+
+-- the number of a file's bytes
+abbrev pub content_length : Content → ℕ
+content_length given.Empty = 0
+content_length (given.Text bytes) = length bytes
+content_length (given.Hex bytes) = length bytes
+content_length (given.Pattern n start) = n
+
+-- a pattern that starts above 250
+abbrev pub starts_high : Content → Bool
+starts_high (given.Pattern n start) = nat_lt 250 start
+starts_high given = false
+
+-- the limits of a file
+abbrev pub file_limits : SoFar → List ℕ → Content → List (Bool × LimitName)
+file_limits so name given =
+    (not (is_name name), limit.Name)
+    ∷ (nat_le 64 (length so.script.files), limit.Files)
+    ∷ (starts_high given, limit.Pattern)
+    ∷ (nat_lt 1048576 (content_length given), limit.Length)
+    ∷ (nat_lt 0 so.script.chunk && nat_lt 1024 (div_ceil (content_length given) so.script.chunk), limit.Chunks)
+    ∷ []
+
+-- `file NAME empty`, `file NAME text REST`, `file NAME hex H`, `file NAME pattern N S`
+abbrev pub file_form : SoFar → List (List ℕ) → Result Form Kind
+file_form so (name ∷ word ∷ words) = do
+  word ← ok_or (content_word_of word) kind.Unknown
+  given ← content_in word words
+  _ ← within (file_limits so name given)
+  _ ← refuse (has_name (names_in so.script.files) name) kind.Twice
+  Ok (says.File (record { name = name; content = given }))
+file_form so words = Err kind.Arity
+
+-- ---- phases, clients and commands
+
+-- `phase`
+abbrev pub phase_form : SoFar → List (List ℕ) → Result Form Kind
+phase_form so words = do
+  _ ← no_words words
+  _ ← within ((nat_le 64 (length so.script.items), limit.Phases) ∷ [])
+  Ok says.Phase
+
+-- `client`; a phase has one
+abbrev pub client_form : SoFar → List (List ℕ) → Result Form Kind
+client_form so words = do
+  _ ← refuse (nat_le 1 (length (last_clients so.script.items))) kind.Unknown
+  _ ← no_words words
+  Ok says.Client
+
+-- a command's operand: a file
+abbrev pub file_operand : SoFar → List (List ℕ) → Result ℕ Kind
+file_operand so words = do
+  name ← one_word words
+  _ ← within ((nat_le 1024 so.commands, limit.Commands) ∷ [])
+  ok_or (file_number (names_in so.script.files) name) kind.NoFile
+
+-- what a command does: its word, and its operands
+abbrev pub act_in : SoFar → Verb → List (List ℕ) → Result Act Kind
+act_in so verb.Create words = file_operand so words >>= λ file. Ok (act.Create file)
+act_in so verb.Read words = file_operand so words >>= λ file. Ok (act.Read file no_servers)
+
+-- ---- any line
+
+-- what a line says, by its first word and the words behind it
+abbrev pub form_in : SoFar → LineWord → List (List ℕ) → Result Form Kind
+form_in so word.Morph words = one_word words >>= λ _. Ok says.Morph
+form_in so word.Servers words = servers_form words
+form_in so word.Chunk words = chunk_form words
+form_in so word.Points words = points_form words
+form_in so word.Stage words = stage_form words
+form_in so word.File words = file_form so words
+form_in so word.Phase words = phase_form so words
+form_in so word.Client words = client_form so words
+form_in so (word.Command verb) words = act_in so verb words >>= λ act. Ok (says.Command act)
+form_in so word.End words = no_words words >>= λ _. Ok says.End
+
+-- what may come behind a client line, and behind a command
+abbrev pub may_follow_command : LineWord → Bool
+may_follow_command (word.Command verb) = true
+may_follow_command word.Client = true
+may_follow_command word.Phase = true
+may_follow_command word.End = true
+may_follow_command next = false
+
+-- whether a line that begins with next may follow a line that begins with last
+unfoldable pub may_follow : LineWord → LineWord → Bool
+may_follow word.Morph word.Servers = true
+may_follow word.Servers word.Chunk = true
+may_follow word.Chunk word.Points = true
+may_follow word.Points word.Stage = true
+may_follow word.Stage word.Stage = true
+may_follow word.Stage word.File = true
+may_follow word.File word.File = true
+may_follow word.File word.Phase = true
+may_follow word.File word.End = true
+may_follow word.Phase word.Client = true
+may_follow word.Client next = may_follow_command next
+may_follow (word.Command verb) next = may_follow_command next
+may_follow last next = false
+
+-- what the first line says
+abbrev pub first_form : List ℕ → Result Form Kind
+first_form line = if bytes_eq line (codes "morph 1") then Ok says.Morph else Err kind.Header
+
+-- what a later line says, whose words these are
+abbrev pub later_form : SoFar → LineWord → List (List ℕ) → Result Form Kind
+later_form so last [] = Err kind.Unknown
+later_form so last (first ∷ words) = do
+  word ← ok_or (word_of first) kind.Unknown
+  form ← form_in so word words
+  _ ← refuse (not (may_follow last word)) kind.Order
+  Ok form
+
+-- the first line, or a later one
+abbrev pub placed : Option LineWord → SoFar → List ℕ → Result Form Kind
+placed None so line = first_form line
+placed (Some last) so line = later_form so last (words_of line)
+
+-- what a line says behind the lines so far, or the kind of its fault
+unfoldable pub form_at : SoFar → List ℕ → Result Form Kind
+form_at so line = if is_clean line then placed so.last so line else Err kind.Text

@@ -1,0 +1,321 @@
+//! What a line says, or its fault.
+
+ghost use Rattle.std.specs.Prelude.{◌≡◌, ◌≤◌, length, map, false, IfOk};
+ghost use Rattle.std.specs.List.{list_any};
+ghost use Rattle.mf_text.specs.Lines.{is_clean};
+ghost use Rattle.mf_lines.specs.Words.{behind};
+ghost use Rattle.mf_lines.specs.Meaning.{verb_of, file_in, first_word};
+ghost use Rattle.mf_lines.specs.Lines.{Says, SaysList, within, is_above, numbers_in, may_follow};
+ghost use Rattle.mf_lines.specs.Lines.{servers_form, chunk_form, points_in, points_form, stage_form};
+ghost use Rattle.mf_lines.specs.Lines.{phase_form, client_form, file_operand, act_in, form_in};
+ghost use Rattle.mf_lines.specs.Lines.{first_form, form_at};
+ghost use Rattle.mf_lines.specs.Drafts.{so_in, IsDraft};
+
+use crate::draft::Draft;
+use crate::files::file_line;
+use crate::parts::{Act, Bytes, FileLine, Kind, LimitName};
+use crate::words::{
+    LineWord, Verb, end_words, last_three_words, last_word, line_word, number, small, spelled,
+    split_word,
+};
+use mf_places::Servers;
+use mf_shape::Stage;
+use std::alloc::{AllocError, Global};
+
+const MAX_CHUNK: u32 = 65_536;
+
+const MAX_POINTS: usize = 4;
+
+const MAX_POINT: u64 = 255;
+
+const MAX_NUMBER: u64 = 4_294_967_295;
+
+const MAX_PHASES: usize = 64;
+
+const MAX_COMMANDS: u32 = 1_024;
+
+/// What a line says: its form.
+#[derive(Drop)]
+pub enum Form {
+    Morph,
+    Servers(u32),
+    Chunk(u32),
+    Points(Bytes),
+    Stage(Stage),
+    File(FileLine),
+    Phase,
+    Client,
+    Command(Act),
+    End,
+}
+
+impl Act {
+    /// The word of the command.
+    pub fn verb(self) -> Verb
+        ensures { result ≡ verb_of self }
+    {
+        match self {
+            Act::Create(_) => Verb::Create,
+            Act::Read { .. } => Verb::Read,
+        }
+    }
+
+    /// The file that it is on.
+    pub fn file(self) -> u32
+        ensures { result ≡ file_in self }
+    {
+        match self {
+            Act::Create(file) | Act::Read { file, .. } => file,
+        }
+    }
+}
+
+impl Form {
+    /// The word that the line begins with.
+    pub fn word(&self) -> LineWord
+        ensures { result ≡ first_word self.now }
+    {
+        match self {
+            Form::Morph => LineWord::Morph,
+            Form::Servers(_) => LineWord::Servers,
+            Form::Chunk(_) => LineWord::Chunk,
+            Form::Points(_) => LineWord::Points,
+            Form::Stage(_) => LineWord::Stage,
+            Form::File(_) => LineWord::File,
+            Form::Phase => LineWord::Phase,
+            Form::Client => LineWord::Client,
+            Form::Command(act) => LineWord::Command(act.verb()),
+            Form::End => LineWord::End,
+        }
+    }
+}
+
+/// Nothing, where no limit is passed, and else the fault of the first that is.
+pub fn within(limits: &[(bool, LimitName)]) -> Result<(), Kind>
+    ensures { result ≡ within limits.now }
+{
+    for (passed, name) in limits {
+        if *passed {
+            return Err(Kind::Limit(*name));
+        }
+    }
+    Ok(())
+}
+
+fn servers_line(rest: Option<&[u8]>) -> Result<Form, Kind>
+    ensures { result ≡ servers_form (behind rest.entry) }
+{
+    let servers = number(last_word(rest)?)?;
+    Ok(Form::Servers(servers))
+}
+
+fn chunk_line(rest: Option<&[u8]>) -> Result<Form, Kind>
+    ensures { result ≡ chunk_form (behind rest.entry) }
+{
+    let size = number(last_word(rest)?)?;
+    within(&[(size == 0 || size > MAX_CHUNK, LimitName::Chunk)])?;
+    Ok(Form::Chunk(size))
+}
+
+// The numbers that the words spell.
+fn numbers_of(alloc: Global, rest: Option<&[u8]>) -> Result<Vec<u64>, Kind>
+    ensures { SaysList result (numbers_in (behind rest.entry)) }
+{
+    let mut numbers = Vec::new(alloc);
+    let mut left = rest;
+    while let Some(line) = left {
+        let (word, after) = split_word(line);
+        match spelled(word) {
+            Ok(n) => numbers.push(n)?,
+            Err(kind) => return Err(kind),
+        }
+        left = after;
+    }
+    Ok(numbers)
+}
+
+// Whether one of the numbers is above `most`.
+fn any_above(numbers: &[u64], most: u64) -> bool
+    ensures { result ≡ list_any (is_above most) numbers.now }
+{
+    numbers.iter().any(|n| *n > most)
+}
+
+// Numbers that are bytes.
+fn bytes_of(alloc: Global, numbers: &[u64]) -> Result<Bytes, AllocError>
+    requires { list_any (is_above 255) numbers.now ≡ false }
+    ensures { IfOk result (λ bytes. bytes ≡ numbers.now) }
+{
+    let mut bytes = Vec::new(alloc);
+    for n in numbers {
+        bytes.push(*n as u8)?;
+    }
+    Ok(Bytes::new(bytes))
+}
+
+// Numbers that are one to four points.
+fn points_of(alloc: Global, numbers: &[u64]) -> Result<Form, Kind>
+    ensures { Says result (points_in numbers.now) }
+{
+    within(&[
+        (any_above(numbers, MAX_NUMBER), LimitName::Number),
+        (any_above(numbers, MAX_POINT), LimitName::Point),
+        (numbers.len() > MAX_POINTS, LimitName::Points),
+    ])?;
+    Ok(Form::Points(bytes_of(alloc, numbers)?))
+}
+
+fn points_line(alloc: Global, rest: Option<&[u8]>) -> Result<Form, Kind>
+    ensures { Says result (points_form (behind rest.entry)) }
+{
+    if rest.is_none() {
+        return Err(Kind::Arity);
+    }
+    let numbers = numbers_of(alloc, rest)?;
+    points_of(alloc, &numbers)
+}
+
+fn stage_line(rest: Option<&[u8]>) -> Result<Form, Kind>
+    ensures { result ≡ stage_form (behind rest.entry) }
+{
+    let (width, parities, copies) = last_three_words(rest)?;
+    let width = spelled(width)?;
+    let parities = spelled(parities)?;
+    let copies = spelled(copies)?;
+    Ok(Form::Stage(Stage {
+        width: small(width)?,
+        parities: small(parities)?,
+        copies: small(copies)?,
+    }))
+}
+
+fn phase_line(draft: &Draft, rest: Option<&[u8]>) -> Result<Form, Kind>
+    ensures { result ≡ phase_form (so_in draft.now) (behind rest.entry) }
+{
+    end_words(rest)?;
+    within(&[(draft.items.len() >= MAX_PHASES, LimitName::Phases)])?;
+    Ok(Form::Phase)
+}
+
+fn client_line(draft: &Draft, rest: Option<&[u8]>) -> Result<Form, Kind>
+    ensures { result ≡ client_form (so_in draft.now) (behind rest.entry) }
+{
+    if draft.has_client() {
+        return Err(Kind::Unknown);
+    }
+    end_words(rest)?;
+    Ok(Form::Client)
+}
+
+// A command's operand: a file.
+fn file_operand(draft: &Draft, rest: Option<&[u8]>) -> Result<u32, Kind>
+    requires { IsDraft draft.now }
+    ensures { result ≡ file_operand (so_in draft.now) (behind rest.entry) }
+{
+    let name = last_word(rest)?;
+    within(&[(draft.commands >= MAX_COMMANDS, LimitName::Commands)])?;
+    draft.file_number(name).ok_or(Kind::NoFile)
+}
+
+// What a command does, by its word and what stands behind it.
+fn act_of(draft: &Draft, verb: Verb, rest: Option<&[u8]>) -> Result<Act, Kind>
+    requires { IsDraft draft.now }
+    ensures { result ≡ act_in (so_in draft.now) verb (behind rest.entry) }
+{
+    match verb {
+        Verb::Create => Ok(Act::Create(file_operand(draft, rest)?)),
+        Verb::Read => Ok(Act::Read {
+            file: file_operand(draft, rest)?,
+            away: Servers::none(),
+        }),
+    }
+}
+
+// What a line says, by its first word and what stands behind it.
+fn form_of(alloc: Global, draft: &Draft, word: LineWord, rest: Option<&[u8]>) -> Result<Form, Kind>
+    requires { IsDraft draft.now }
+    ensures { Says result (form_in (so_in draft.now) word (behind rest.entry)) }
+{
+    match word {
+        LineWord::Morph => {
+            last_word(rest)?;
+            Ok(Form::Morph)
+        }
+        LineWord::Servers => servers_line(rest),
+        LineWord::Chunk => chunk_line(rest),
+        LineWord::Points => points_line(alloc, rest),
+        LineWord::Stage => stage_line(rest),
+        LineWord::File => file_line(alloc, draft, rest),
+        LineWord::Phase => phase_line(draft, rest),
+        LineWord::Client => client_line(draft, rest),
+        LineWord::Command(verb) => Ok(Form::Command(act_of(draft, verb, rest)?)),
+        LineWord::End => {
+            end_words(rest)?;
+            Ok(Form::End)
+        }
+    }
+}
+
+// Whether a line that begins with `next` may follow one that begins with `last`.
+#[tactic(auto, unfolding(crate::specs::Lines::may_follow))]
+fn may_follow(last: LineWord, next: LineWord) -> bool
+    ensures { result ≡ may_follow last next }
+{
+    match last {
+        LineWord::Morph => matches!(next, LineWord::Servers),
+        LineWord::Servers => matches!(next, LineWord::Chunk),
+        LineWord::Chunk => matches!(next, LineWord::Points),
+        LineWord::Points => matches!(next, LineWord::Stage),
+        LineWord::Stage => matches!(next, LineWord::Stage | LineWord::File),
+        LineWord::File => matches!(next, LineWord::File | LineWord::Phase | LineWord::End),
+        LineWord::Phase => matches!(next, LineWord::Client),
+        LineWord::Client | LineWord::Command(_) => matches!(
+            next,
+            LineWord::Command(_) | LineWord::Client | LineWord::Phase | LineWord::End
+        ),
+        LineWord::End => false,
+    }
+}
+
+// Whether all bytes of a line may stand there.
+#[tactic(auto, unfolding(mf_text::specs::Lines::is_clean))]
+fn is_clean(line: &[u8]) -> bool
+    ensures { result ≡ is_clean line.now }
+{
+    line.iter().all(|b| (32..=126).contains(b))
+}
+
+// What the first line says.
+fn first_line(line: &[u8]) -> Result<Form, Kind>
+    ensures { result ≡ first_form line.now }
+{
+    if line == b"morph 1".as_slice() {
+        Ok(Form::Morph)
+    } else {
+        Err(Kind::Header)
+    }
+}
+
+/// What a line says behind those before it.
+///
+/// # Errors
+/// The first kind of fault that the line has, in the order of the kinds, or `Memory` where memory ran out.
+#[tactic(auto, unfolding(crate::specs::Lines::form_at))]
+pub fn read_line(alloc: Global, draft: &Draft, line: &[u8]) -> Result<Form, Kind>
+    requires { IsDraft draft.now }
+    ensures { Says result (form_at (so_in draft.now) line.now) }
+{
+    if !is_clean(line) {
+        return Err(Kind::Text);
+    }
+    let Some(last) = draft.last else {
+        return first_line(line);
+    };
+    let (word, rest) = split_word(line);
+    let word = line_word(word).ok_or(Kind::Unknown)?;
+    let form = form_of(alloc, draft, word, rest)?;
+    if !may_follow(last, word) {
+        return Err(Kind::Order);
+    }
+    Ok(form)
+}

@@ -33,7 +33,8 @@ born_low n now born l = by (eqb n 0)
     by true = omega arith
     by false = l
 
-module _ (r : Resting) (now born : ℕ) (losses : List LoseLine) (more : List LoseLine) (at : AtRest r) (is : losses ≡ r.losses ++ more) where
+module _ (r : Resting) (now born : ℕ) (losses : List LoseLine) (more : List LoseLine) (at : AtRest r)
+    (is : losses ≡ r.losses ++ more) where
   abbrev k : Known
   k = first_known r losses
 
@@ -110,7 +111,8 @@ new_stands r r' now born losses k es cut same at since (more, is) ek eb ee ec =
     (subst (λ l. Stands r.book born now (first_known r losses) (first_stored r) l cut) (sym ee)
     (subst (λ x. Stands r.book born now (first_known r losses) (first_stored r) [] x) (sym ec)
     (first_stands r now born losses more at (is ∙ ap (λ (z : Resting). z.losses ++ more) (sym same))
-    (subst (λ x. x ≤ now) (sym eb) (born_low r.number now r.born (subst (λ (z : Resting). z.born ≤ now) (sym same) since))))))
+    (subst (λ x. x ≤ now) (sym eb) (born_low r.number now r.born
+    (subst (λ (z : Resting). z.born ≤ now) (sym same) since))))))
 
 pub new_actor : (r r' : Resting) (now born : ℕ) (losses : List LoseLine) (k : Known) (es : List Entry) (cut : Servers)
     → r ≡ r'

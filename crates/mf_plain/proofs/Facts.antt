@@ -87,4 +87,5 @@ module _ (f : Facts) (s : Stored) (v : View) (h : ∥ Holding f (world s v) ∥�
       is : Holding f now → c ≡ (file f).cell n
       is r = let z : keeps c ≡ keeps ((file f).cell n) =
           sym home
-          ∙ cell_is (file f) n (home_of now n) (tells.here_cell (file f) f.opening (read (file f) now) r.ruled n low e) in cc
+          ∙ cell_is (file f) n (home_of now n) (tells.here_cell (file f) f.opening (read (file f) now) r.ruled n low e)
+          in cc

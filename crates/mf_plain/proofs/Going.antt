@@ -80,9 +80,11 @@ module _ (b : BookFacts) (born ticks : ℕ) (k : Known) (s : Stored) (es : List 
           (subst (λ x. Stands b born ticks (record k { view = view c }) s' (es ++ entry_of c) x) (sym ec) stands_to))
 
       pub goes : Goes c (actor_at f s k.view es cut) (actor_at (facts_at b born ticks k') s' k'.view es' cut')
-      goes = subst (λ (x : Known). Goes c (actor_at f s k.view es cut) (actor_at (facts_at b born ticks x) s' x.view es' cut')) (sym ek)
+      goes = subst (λ (x : Known). Goes c (actor_at f s k.view es cut)
+          (actor_at (facts_at b born ticks x) s' x.view es' cut')) (sym ek)
           (subst (λ l. Goes c (actor_at f s k.view es cut) (actor_at f s' (view c) l cut')) (sym ee)
-          (subst (λ x. Goes c (actor_at f s k.view es cut) (actor_at f s' (view c) (es ++ entry_of c) x)) (sym ec) goes_to))
+          (subst (λ x. Goes c (actor_at f s k.view es cut) (actor_at f s' (view c) (es ++ entry_of c) x)) (sym ec)
+          goes_to))
 
   -- where the steps lead to this world, with this view
   pub from_run : (c : Call) (s' : Stored) (v' : View) → run (file f) w (moves f w c) ≡ world s' v'
@@ -102,7 +104,8 @@ module _ (b : BookFacts) (born ticks : ℕ) (k : Known) (s : Stored) (es : List 
         told = told;
       }
 
-module _ {b : BookFacts} {born ticks : ℕ} {k : Known} {s : Stored} {es : List Entry} {cut : Servers} {c : Call} {s' : Stored}
+module _ {b : BookFacts} {born ticks : ℕ} {k : Known} {s : Stored} {es : List Entry} {cut : Servers} {c : Call}
+    {s' : Stored}
     (st : Stands b born ticks k s es cut) (g : Step b born ticks k s es cut c s') where
   -- what is kept after the call, and that it went so
   pub stands_after : {k' : Known} {es' : List Entry} {cut' : Servers} → k' ≡ known_after b born ticks k s c
@@ -114,5 +117,6 @@ module _ {b : BookFacts} {born ticks : ℕ} {k : Known} {s : Stored} {es : List 
   pub goes_after : {k' : Known} {es' : List Entry} {cut' : Servers} → k' ≡ known_after b born ticks k s c
       → es' ≡ es ++ entry_of c
       → cut' ≡ cut_by c cut
-      → Goes c (actor_at (facts_at b born ticks k) s k.view es cut) (actor_at (facts_at b born ticks k') s' k'.view es' cut')
+      → Goes c (actor_at (facts_at b born ticks k) s k.view es cut)
+      (actor_at (facts_at b born ticks k') s' k'.view es' cut')
   goes_after {k' = k'} {es' = es'} {cut' = cut'} ek ee ec = goes b born ticks k s es cut c s' st g k' es' cut' ek ee ec

@@ -153,7 +153,8 @@ module _ {b : BookFacts} {born ticks : ℕ} {k : Known} {s : Stored} {es : List 
   see_kept state.Here n i x =
       kept_as s (counted i x (row.see_view state.Here n v)) refl refl refl refl refl refl refl refl refl st.ready.free
   see_kept (state.Lost l) n i x =
-      kept_as s (counted i x (row.see_view (state.Lost l) n v)) refl refl refl refl refl refl refl refl refl st.ready.free
+      kept_as s (counted i x (row.see_view (state.Lost l) n v)) refl refl refl refl refl refl refl refl refl
+      st.ready.free
   see_kept (state.Away t) n i x = kept_as s (counted i x v) refl refl refl refl refl refl refl refl refl st.ready.free
 
   sees_as : (x : Name) (a : State) → MayProbe x now
@@ -270,10 +271,13 @@ module _ {b : BookFacts} {born ticks : ℕ} {k : Known} {s : Stored} {es : List 
       let step : Step (call.discard x false) (with_name n r) =
       going.from_run b born ticks k s es cut (call.discard x false) (with_name n r) v₁
       (ap (λ d. run (file f) w (call.drop_moves n d)) answer ∙ (first ∙ leaves x r v₁ e))
-      (subst (λ d. Runs (file f) w (call.drop_moves n d)) (sym answer) ((steps.active st, steps.free st, number_low f x m.0, m.1), tt))
-      refl (kept_as (with_name n r) v₁ refl refl refl refl refl refl refl refl refl (omega arith)) refl (length-set s.names n r) tt
+      (subst (λ d. Runs (file f) w (call.drop_moves n d)) (sym answer)
+      ((steps.active st, steps.free st, number_low f x m.0, m.1), tt))
+      refl (kept_as (with_name n r) v₁ refl refl refl refl refl refl refl refl refl (omega arith)) refl
+      (length-set s.names n r) tt
       (sym (ap was_dropped answer)) in
-      subst (λ y. Step (call.discard x y) (with_name n (dropped_of r))) (sym is) (subst (λ y. Step (call.discard x false) (with_name n y)) (sym same) step)
+      subst (λ y. Step (call.discard x y) (with_name n (dropped_of r))) (sym is)
+      (subst (λ y. Step (call.discard x false) (with_name n y)) (sym same) step)
 
   drops_here : (x : Name) (c : List ℕ) → r_of x ≡ rest.Here c → MayDiscard x now
       → Step (call.discard x true) (with_name (number f x) rest.Dropped)
@@ -386,8 +390,10 @@ module _ {b : BookFacts} {born ticks : ℕ} {k : Known} {s : Stored} {es : List 
       let free = st.ready.free in
       going.from_run b born ticks k s es cut (call.lose x l false) (with_name n r) v₁
       (ap (λ d. run (file f) w (call.lose_moves n l d)) answer ∙ (first ∙ leaves x r v₁ e))
-      (subst (λ d. Runs (file f) w (call.lose_moves n l d)) (sym answer) ((steps.active st, steps.free st, number_low f x m.0, m.1), tt))
-      refl (kept_as (with_name n r) v₁ refl refl refl refl refl refl refl refl refl free) refl (length-set s.names n r) tt (sym answer)
+      (subst (λ d. Runs (file f) w (call.lose_moves n l d)) (sym answer)
+      ((steps.active st, steps.free st, number_low f x m.0, m.1), tt))
+      refl (kept_as (with_name n r) v₁ refl refl refl refl refl refl refl refl refl free) refl (length-set s.names n r)
+      tt (sym answer)
 
   pub loses : (x : Name) (r : Rest) (l : ℕ) (a : Bool) → r_of x ≡ r → MayLose x l now
       → was_lost a ≡ row.lose_answer (resting.word_of r)
@@ -424,7 +430,8 @@ module _ {b : BookFacts} {born ticks : ℕ} {k : Known} {s : Stored} {es : List 
         subst (λ y. Runs (file f) y (by 0 (move.give n) ∷ [])) (sym first)
             (((steps.active st, refl), cell_here (file f) n (home_of w n) (home ∙ ap keeps cell)), tt),
       ))
-      (sym (rows (erased v))) (kept_as s v₂ refl refl refl refl refl refl refl refl refl (omega arith)) refl refl fair told
+      (sym (rows (erased v))) (kept_as s v₂ refl refl refl refl refl refl refl refl refl (omega arith)) refl refl fair
+      told
 
   gets_lost : (x : Name) (l : ℕ) → r_of x ≡ rest.Lost l → MayGet x now → IsReached now x
       → Step (call.get x (got.Lost l)) s

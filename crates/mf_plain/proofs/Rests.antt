@@ -94,7 +94,8 @@ module _ (f : Facts) (s : Stored) (v : View) (long : length s.closed ≡ stages 
     number = facts.number_top f s v h;
     closed = λ g l e. passed g l (ap truth e);
     born = λ g l e n low b z. facts.never f s v h (λ r. r.ruled.words.born g l
-        (subst (λ x. 0 < sums.tally f.opening (v ∷ []) (answers.number x)) e r.ruled.words.number.heard) n low b (word_is n
+        (subst (λ x. 0 < sums.tally f.opening (v ∷ []) (answers.number x)) e r.ruled.words.number.heard) n low b
+        (word_is n
         ∙ z));
     settled = λ n low. not_taken (r_of n);
     dropped = λ n low e g l b. is_true (get_or s.closed g false) (left n g low e l b);
@@ -147,7 +148,8 @@ rest_back rest.Unborn = refl
 rest_back (rest.Here c) = refl
 rest_back rest.Dropped = refl
 rest_back (rest.Lost l) =
-    ap (λ t. cond t rest.Unborn (cond (eqb (4 + l) 3) rest.Dropped (cond (leb 4 (4 + l)) (rest.Lost (4 + l - 4)) (rest.Here []))))
+    ap (λ t. cond t rest.Unborn (cond (eqb (4 + l) 3) rest.Dropped
+    (cond (leb 4 (4 + l)) (rest.Lost (4 + l - 4)) (rest.Here []))))
     (ne_eqb (4 + l) 0 (λ e. let z : 4 + l ≡ 0 = e in absurd (omega arith)))
     ∙ (ap (λ t. cond t rest.Dropped (cond (leb 4 (4 + l)) (rest.Lost (4 + l - 4)) (rest.Here [])))
     (ne_eqb (4 + l) 3 (λ e. let z : 4 + l ≡ 3 = e in absurd (omega arith)))
@@ -158,7 +160,8 @@ rests_back : (rs : List Rest) → rests_from (resting.words_of rs) (resting.home
 rests_back [] = refl
 rests_back (r ∷ rs) = λ i. rest_back r i ∷ rests_back rs i
 
-module _ {b : BookFacts} {born ticks : ℕ} {k : Known} {s : Stored} {es : List Entry} {cut : Servers} (st : Stands b born ticks k s es cut) where
+module _ {b : BookFacts} {born ticks : ℕ} {k : Known} {s : Stored} {es : List Entry} {cut : Servers}
+    (st : Stands b born ticks k s es cut) where
   abbrev left_of : ℕ → Told → Resting
   left_of born' told = record {
     book = b;
@@ -202,7 +205,9 @@ module _ {b : BookFacts} {born ticks : ℕ} {k : Known} {s : Stored} {es : List 
       closed_is = ap (map is_closed) (take_front pins (resting.words_of s.names) (length b.shape.stages) (sym wide))
           ∙ all_closed_back (pins_of s.hold s.work) 0 s.closed (few_pins_of s.hold s.work)
 
-      names_is : rests_from (drop (length b.shape.stages + 2) (s.number ∷ truth s.right ∷ pins ++ resting.words_of s.names)) (resting.homes_of s.names) ≡ s.names
+      names_is : rests_from (drop (length b.shape.stages + 2)
+          (s.number ∷ truth s.right ∷ pins ++ resting.words_of s.names)) (resting.homes_of s.names) ≡ s.names
       names_is =
-          ap (λ l. rests_from l (resting.homes_of s.names)) (drop_two s.number (truth s.right) (pins ++ resting.words_of s.names) (length b.shape.stages)
+          ap (λ l. rests_from l (resting.homes_of s.names)) (drop_two s.number (truth s.right)
+          (pins ++ resting.words_of s.names) (length b.shape.stages)
           ∙ drop_front pins (resting.words_of s.names) (length b.shape.stages) (sym wide)) ∙ rests_back s.names

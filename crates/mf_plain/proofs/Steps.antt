@@ -46,11 +46,15 @@ close_word : (shut : Bool) (p : ℕ) → p ≤ 2
     → cond (eqb (9223372036854775808 * truth shut + p) 0) 9223372036854775808 (9223372036854775808 * truth shut + p)
     ≡ 9223372036854775808 * truth (shut_by (row.close_answer (9223372036854775808 * truth shut + p)) shut) + p
 close_word true p l =
-    few (λ p. cond (eqb (9223372036854775808 * truth true + p) 0) 9223372036854775808 (9223372036854775808 * truth true + p)
-    ≡ 9223372036854775808 * truth (shut_by (row.close_answer (9223372036854775808 * truth true + p)) true) + p) refl refl refl p l
+    few (λ p. cond (eqb (9223372036854775808 * truth true + p) 0) 9223372036854775808
+    (9223372036854775808 * truth true + p)
+    ≡ 9223372036854775808 * truth (shut_by (row.close_answer (9223372036854775808 * truth true + p)) true) + p) refl
+    refl refl p l
 close_word false p l =
-    few (λ p. cond (eqb (9223372036854775808 * truth false + p) 0) 9223372036854775808 (9223372036854775808 * truth false + p)
-    ≡ 9223372036854775808 * truth (shut_by (row.close_answer (9223372036854775808 * truth false + p)) false) + p) refl refl refl p l
+    few (λ p. cond (eqb (9223372036854775808 * truth false + p) 0) 9223372036854775808
+    (9223372036854775808 * truth false + p)
+    ≡ 9223372036854775808 * truth (shut_by (row.close_answer (9223372036854775808 * truth false + p)) false) + p) refl
+    refl refl p l
 
 close_fair : (shut : Bool) (p : ℕ) → p ≤ 2 → FairClose (row.close_answer (9223372036854775808 * truth shut + p))
 close_fair true p l = few (λ p. FairClose (row.close_answer (9223372036854775808 * truth true + p))) tt tt tt p l
@@ -236,8 +240,13 @@ module _ {b : BookFacts} {born ticks : ℕ} {k : Known} {s : Stored} {es : List 
       let to : run (file f) w (call.pin_moves Hold (At g)) ≡ world (record s { hold = Some g }) v₂ =
       ap (λ t. acted (word_row (g + 2) (λ y. y + 1) (λ y. row.pin_view t Hold g)) x (world s v₁) 0) (unopened g few)
       ∙ slots g (let l = long in omega arith) (Some g) s.work (x + 1) v₂ far (omega arith) in
-      going.from_run b born ticks k s es cut (call.pin Hold [] (At g)) (record s { hold = Some g }) v₂ to
-      ((active, idle), ((active, idle, low, free_slot, ap (λ y. y + 1) e, facts.unshut_at f s v st.holding g e low), tt))
+      going.from_run b born ticks k s es cut (call.pin Hold [] (At g)) (record s { hold = Some g }) v₂ to (
+        (active, idle),
+        (
+          (active, idle, low, free_slot, ap (λ y. y + 1) e, facts.unshut_at f s v st.holding g e low),
+          tt,
+        ),
+      )
       (ap (λ y. erased (row.pinned Hold g (row.looked y v))) e)
       (kept (record s { hold = Some g }) v₂ refl refl refl st.tied.right refl st.tied.work free (omega arith) work_low)
       refl refl (low, (let l = facts.number_seen f s v st.holding in omega arith)) (refl, (e, low))
@@ -255,8 +264,13 @@ module _ {b : BookFacts} {born ticks : ℕ} {k : Known} {s : Stored} {es : List 
       let to : run (file f) w (call.pin_moves Work (At g)) ≡ world (record s { work = Some g }) v₂ =
       ap (λ t. acted (word_row (g + 2) (λ y. y + 1) (λ y. row.pin_view t Work g)) x (world s v₁) 0) (unopened g few)
       ∙ slots g (let l = long in omega arith) s.hold (Some g) (x + 1) v₂ far (omega arith) in
-      going.from_run b born ticks k s es cut (call.pin Work [] (At g)) (record s { work = Some g }) v₂ to
-      ((active, idle), ((active, idle, low, free_slot, ap (λ y. y + 1) e, facts.unshut_at f s v st.holding g e low), tt))
+      going.from_run b born ticks k s es cut (call.pin Work [] (At g)) (record s { work = Some g }) v₂ to (
+        (active, idle),
+        (
+          (active, idle, low, free_slot, ap (λ y. y + 1) e, facts.unshut_at f s v st.holding g e low),
+          tt,
+        ),
+      )
       (ap (λ y. erased (row.pinned Work g (row.looked y v))) e)
       (kept (record s { work = Some g }) v₂ refl refl refl st.tied.right st.tied.hold refl free hold_low (omega arith))
       refl refl (low, (let l = facts.number_seen f s v st.holding in omega arith)) (refl, (e, low))
@@ -332,7 +346,8 @@ module _ {b : BookFacts} {born ticks : ℕ} {k : Known} {s : Stored} {es : List 
       ∙ ap (λ y. 9223372036854775808 * truth shut + y) (sym pins)) in
       let told : c ≡ row.close_answer x = answer ∙ sym (ap row.close_answer word) in
       let v₁ : View = counted (g + 2) x (row.close_view c g v) in
-      let new : cond (eqb x 0) 9223372036854775808 x ≡ 9223372036854775808 * truth (shut_by c shut) + pins_of s.hold s.work g =
+      let new : cond (eqb x 0) 9223372036854775808 x ≡ 9223372036854775808 * truth (shut_by c shut) + pins_of s.hold
+      s.work g =
       ap (λ y. cond (eqb y 0) 9223372036854775808 y) word ∙ (close_word shut p few
       ∙ (ap (λ y. 9223372036854775808 * truth (shut_by y shut) + p) (sym answer)
       ∙ ap (λ y. 9223372036854775808 * truth (shut_by c shut) + y) pins)) in
@@ -340,8 +355,10 @@ module _ {b : BookFacts} {born ticks : ℕ} {k : Known} {s : Stored} {es : List 
         closed =
             set s.closed g (shut_by c shut);
       }) v₁ =
-      ap (λ y. acted (word_row (g + 2) (λ z. cond (eqb z 0) 9223372036854775808 z) (λ z. row.close_view y g)) x w 0) (sym told)
-      ∙ worlds.pins_are f s v long s.hold s.work g (cond (eqb x 0) 9223372036854775808 x) (shut_by c shut) v₁ lg (λ j ne. refl) new in
+      ap (λ y. acted (word_row (g + 2) (λ z. cond (eqb z 0) 9223372036854775808 z) (λ z. row.close_view y g)) x w 0)
+      (sym told)
+      ∙ worlds.pins_are f s v long s.hold s.work g (cond (eqb x 0) 9223372036854775808 x) (shut_by c shut) v₁ lg
+      (λ j ne. refl) new in
       going.from_run b born ticks k s es cut (call.close g c) (record s {
         closed =
             set s.closed g (shut_by c shut);

@@ -47,15 +47,16 @@ abbrev pub Came : Facts → Stored → Stored → View → List Entry → Server
 Came f first s v es cut = (cs : List Call) × Does cs (first_at f first) (actor_at f s v es cut)
 
 -- all that is kept between calls
-pub record Stands (book : BookFacts) (born now : ℕ) (k : Known) (s : Stored) (es : List Entry) (cut : Servers) : Type 0 where
-  pub closed : length s.closed ≡ length book.shape.stages
-  pub names : length s.names ≡ count_of book
-  pub since : born ≤ now
-  pub is_file : IsFile (facts_at book born now k)
-  pub ready : IsReady (facts_at book born now k) k.view
-  pub tied : Tied s k.view
-  pub holding : ∥ Holding (facts_at book born now k) (world s k.view) ∥₁
-  pub came : ∥ Came (facts_at book born now k) (opened_stored k.opened) s k.view es cut ∥₁
+pub record Stands (book : BookFacts) (born now : ℕ) (k : Known) (s : Stored) (es : List Entry) (cut : Servers) : Type 0
+  where
+    pub closed : length s.closed ≡ length book.shape.stages
+    pub names : length s.names ≡ count_of book
+    pub since : born ≤ now
+    pub is_file : IsFile (facts_at book born now k)
+    pub ready : IsReady (facts_at book born now k) k.view
+    pub tied : Tied s k.view
+    pub holding : ∥ Holding (facts_at book born now k) (world s k.view) ∥₁
+    pub came : ∥ Came (facts_at book born now k) (opened_stored k.opened) s k.view es cut ∥₁
 
 -- what is known after a call
 abbrev pub known_after : BookFacts → ℕ → ℕ → Known → Stored → Call → Known

@@ -82,6 +82,7 @@ one_answer = record {
   probe = λ a b c w x s t e y z. one_state a x (word_at a.facts w x) s t y.fair z.fair (told_in w e y) (told_in w e z);
   close = λ a b c w g s t e x y. told_in w e x ∙ sym (told_in w e y);
   discard = λ a b c w x s t e y z. told_in w e y ∙ sym (told_in w e z);
-  get = λ a b c w x s t e y z u v. one_got a x (word_at a.facts w x) s t y.fair z.fair (told_in w e y) (told_in w e z) u v;
+  get = λ a b c w x s t e y z u v. one_got a x (word_at a.facts w x) s t y.fair z.fair (told_in w e y) (told_in w e z) u
+      v;
   lose = λ a b c w x l s t e y z. one_loss s t (told_in w e y ∙ sym (told_in w e z));
 }

@@ -19,5 +19,6 @@ plus-io-requires c = let es = c.args.entries.now in let n = c.loop-entry.entry-i
 
 pub loop-entry-preserved : goal.loop-entry-preserved
 loop-entry-preserved c = let low = c.loop-entry-test.true in
-    io_step c.args.entries.now c.loop-entry.entry-index (Chunk Get (Data 0) Here) c.loop-entry.io c.count.result c.plus-io.result
+    io_step c.args.entries.now c.loop-entry.entry-index (Chunk Get (Data 0) Here) c.loop-entry.io c.count.result
+    c.plus-io.result
     (omega arith) c.loop-entry.invariant c.count.ensures c.plus-io.ensures

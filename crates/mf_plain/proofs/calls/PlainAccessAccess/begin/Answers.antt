@@ -7,7 +7,8 @@ use Rattle.mf_plain.proofs.calls.PlainAccessAccess.begin.Goals as goal
 pub invariant_of-self : goal.invariant_of-self
 invariant_of-self c = let s = c.args.self.now in record {
   stands =
-      stands_after s.stands (steps.begins s.stands c.requires) c.pick-known.ensures (sym (append-nil s.ledger.items)) refl;
+      stands_after s.stands (steps.begins s.stands c.requires) c.pick-known.ensures (sym (append-nil s.ledger.items))
+      refl;
 }
 
 pub returns-clause-goes : goal.returns-clause-goes

@@ -8,9 +8,18 @@ use Rattle.mf_plain.proofs.calls.PlainAccessAccess.discard.Goals as goal
 pub invariant_of-self : goal.invariant_of-self
 invariant_of-self c = let s = c.args.self.now in record {
   stands =
-      stands_after s.stands (code.drops s c.args.name c.place_of-n.result c.index_mut.result.now c.drop_rest-yes.new.state c.drop_rest-yes.result c.requires.may c.place_of-n.ensures.value c.place_of-n.ensures.low c.index_mut.ensures.value c.drop_rest-yes.ensures.answer c.drop_rest-yes.ensures.value) c.pick-known.ensures (code.entered op.Discard c.args.name c.changed.result (change_answer c.drop_rest-yes.result) s.ledger.items c.append.new.ledger.items c.append.ensures.items c.changed.ensures) refl;
+      stands_after s.stands (code.drops s c.args.name c.place_of-n.result c.index_mut.result.now
+      c.drop_rest-yes.new.state c.drop_rest-yes.result c.requires.may c.place_of-n.ensures.value
+      c.place_of-n.ensures.low c.index_mut.ensures.value c.drop_rest-yes.ensures.answer
+      c.drop_rest-yes.ensures.value) c.pick-known.ensures
+      (code.entered op.Discard c.args.name c.changed.result (change_answer c.drop_rest-yes.result)
+      s.ledger.items c.append.new.ledger.items c.append.ensures.items c.changed.ensures) refl;
 }
 
 pub returns-clause-goes : goal.returns-clause-goes
 returns-clause-goes c = let s = c.args.self.now in
-    goes_after s.stands (code.drops s c.args.name c.place_of-n.result c.index_mut.result.now c.drop_rest-yes.new.state c.drop_rest-yes.result c.requires.may c.place_of-n.ensures.value c.place_of-n.ensures.low c.index_mut.ensures.value c.drop_rest-yes.ensures.answer c.drop_rest-yes.ensures.value) c.pick-known.ensures (code.entered op.Discard c.args.name c.changed.result (change_answer c.drop_rest-yes.result) s.ledger.items c.append.new.ledger.items c.append.ensures.items c.changed.ensures) refl
+    goes_after s.stands (code.drops s c.args.name c.place_of-n.result c.index_mut.result.now c.drop_rest-yes.new.state
+    c.drop_rest-yes.result c.requires.may c.place_of-n.ensures.value c.place_of-n.ensures.low
+    c.index_mut.ensures.value c.drop_rest-yes.ensures.answer c.drop_rest-yes.ensures.value) c.pick-known.ensures
+    (code.entered op.Discard c.args.name c.changed.result (change_answer c.drop_rest-yes.result)
+    s.ledger.items c.append.new.ledger.items c.append.ensures.items c.changed.ensures) refl

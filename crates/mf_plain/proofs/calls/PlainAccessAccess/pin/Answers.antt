@@ -11,8 +11,10 @@ pinned_by-pinned-requires c = let s = c.args.self.now in let top = steps.number_
 pub invariant_of-self : goal.invariant_of-self
 invariant_of-self c = let s = c.args.self.now in record {
   stands =
-      stands_after s.stands (steps.pins_to s.stands c.args.slot c.pinned_by-pinned.result c.stages.result c.hold_after-self.result
-      c.work_after-self.result c.stages.ensures.value c.requires c.pinned_by-pinned.ensures c.hold_after-self.ensures c.work_after-self.ensures)
+      stands_after s.stands (steps.pins_to s.stands c.args.slot c.pinned_by-pinned.result c.stages.result
+      c.hold_after-self.result
+      c.work_after-self.result c.stages.ensures.value c.requires c.pinned_by-pinned.ensures c.hold_after-self.ensures
+      c.work_after-self.ensures)
       c.pick-known.ensures (sym (append-nil s.ledger.items)) refl;
 }
 
@@ -20,6 +22,7 @@ pub returns-clause-goes : goal.returns-clause-goes
 returns-clause-goes c = let s = c.args.self.now in (
   [],
   goes_after s.stands (steps.pins_to s.stands c.args.slot c.pinned_by-pinned.result c.stages.result
-      c.hold_after-self.result c.work_after-self.result c.stages.ensures.value c.requires c.pinned_by-pinned.ensures c.hold_after-self.ensures c.work_after-self.ensures)
+      c.hold_after-self.result c.work_after-self.result c.stages.ensures.value c.requires c.pinned_by-pinned.ensures
+      c.hold_after-self.ensures c.work_after-self.ensures)
       c.pick-known.ensures (sym (append-nil s.ledger.items)) refl,
 )

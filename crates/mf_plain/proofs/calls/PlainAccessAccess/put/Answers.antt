@@ -8,9 +8,14 @@ use Rattle.mf_plain.proofs.calls.PlainAccessAccess.put.Goals as goal
 pub invariant_of-self : goal.invariant_of-self
 invariant_of-self c = let s = c.args.self.now in record {
   stands =
-      stands_after s.stands (code.puts s c.args.name c.args.bytes c.place_of-n.result c.requires.may c.requires.cell c.place_of-n.ensures.value) c.pick-known.ensures (code.entered op.Put c.args.name c.changed.result (change_answer true) s.ledger.items c.append.new.ledger.items c.append.ensures.items c.changed.ensures) refl;
+      stands_after s.stands (code.puts s c.args.name c.args.bytes c.place_of-n.result c.requires.may c.requires.cell
+      c.place_of-n.ensures.value) c.pick-known.ensures (code.entered op.Put c.args.name c.changed.result
+      (change_answer true) s.ledger.items c.append.new.ledger.items c.append.ensures.items c.changed.ensures)
+      refl;
 }
 
 pub returns-clause-goes : goal.returns-clause-goes
 returns-clause-goes c = let s = c.args.self.now in
-    goes_after s.stands (code.puts s c.args.name c.args.bytes c.place_of-n.result c.requires.may c.requires.cell c.place_of-n.ensures.value) c.pick-known.ensures (code.entered op.Put c.args.name c.changed.result (change_answer true) s.ledger.items c.append.new.ledger.items c.append.ensures.items c.changed.ensures) refl
+    goes_after s.stands (code.puts s c.args.name c.args.bytes c.place_of-n.result c.requires.may c.requires.cell
+    c.place_of-n.ensures.value) c.pick-known.ensures (code.entered op.Put c.args.name c.changed.result
+    (change_answer true) s.ledger.items c.append.new.ledger.items c.append.ensures.items c.changed.ensures) refl

@@ -7,11 +7,14 @@ use Rattle.mf_plain.proofs.calls.PlainAccessAccess.unpin.Goals as goal
 pub invariant_of-self : goal.invariant_of-self
 invariant_of-self c = let s = c.args.self.now in record {
   stands =
-      stands_after s.stands (steps.unpins_to s.stands c.args.slot c.hold_without-self.result c.work_without-self.result c.requires
-      c.hold_without-self.ensures c.work_without-self.ensures) c.pick-known.ensures (sym (append-nil s.ledger.items)) refl;
+      stands_after s.stands (steps.unpins_to s.stands c.args.slot c.hold_without-self.result c.work_without-self.result
+      c.requires
+      c.hold_without-self.ensures c.work_without-self.ensures) c.pick-known.ensures (sym (append-nil s.ledger.items))
+      refl;
 }
 
 pub returns-clause-goes : goal.returns-clause-goes
 returns-clause-goes c = let s = c.args.self.now in
     goes_after s.stands (steps.unpins_to s.stands c.args.slot c.hold_without-self.result
-    c.work_without-self.result c.requires c.hold_without-self.ensures c.work_without-self.ensures) c.pick-known.ensures (sym (append-nil s.ledger.items)) refl
+    c.work_without-self.result c.requires c.hold_without-self.ensures c.work_without-self.ensures) c.pick-known.ensures
+    (sym (append-nil s.ledger.items)) refl

@@ -10,9 +10,13 @@ got-got-requires-clause-there c = code.there c.args.self.now c.args.name c.requi
 pub invariant_of-self : goal.invariant_of-self
 invariant_of-self c = let s = c.args.self.now in record {
   stands =
-      stands_after s.stands (named.gets s.stands c.args.name c.got-got.result c.requires.may (code.got_as s c.args.name c.got-got.result c.got-got.ensures)) c.pick-note.ensures c.enter_get.ensures.items refl;
+      stands_after s.stands (named.gets s.stands c.args.name c.got-got.result c.requires.may
+      (code.got_as s c.args.name c.got-got.result c.got-got.ensures)) c.pick-note.ensures c.enter_get.ensures.items
+      refl;
 }
 
 pub returns-clause-goes : goal.returns-clause-goes
 returns-clause-goes c = let s = c.args.self.now in
-    goes_after s.stands (named.gets s.stands c.args.name c.got-got.result c.requires.may (code.got_as s c.args.name c.got-got.result c.got-got.ensures)) c.pick-note.ensures c.enter_get.ensures.items refl
+    goes_after s.stands (named.gets s.stands c.args.name c.got-got.result c.requires.may
+    (code.got_as s c.args.name c.got-got.result c.got-got.ensures)) c.pick-note.ensures c.enter_get.ensures.items
+    refl

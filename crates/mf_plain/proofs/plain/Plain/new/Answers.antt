@@ -13,5 +13,6 @@ invariant_of-result c = let b = c.args.book in let bytes = c.args.bytes.now in
     ∙ ap (λ k. replicate k rest.Unborn) count in
     let closed : c.in_ok-closed.closed.items ≡ replicate (length b.shape.stages) false =
     c.in_ok-closed.ensures.items_if_clones_equal (λ y d. d) ∙ ap (λ k. replicate k false) c.stages.ensures.value in
-    subst AtRest (unborn_is b bytes c.pick-told.result.value c.in_ok-closed.closed.items c.loop.names.items c.pick-told.ensures closed names)
+    subst AtRest (unborn_is b bytes c.pick-told.result.value c.in_ok-closed.closed.items c.loop.names.items
+    c.pick-told.ensures closed names)
     (unborn_rests b bytes c.chunk.ensures.kept c.requires c.are_bytes.ensures)

@@ -117,7 +117,8 @@ same_pieces f b g [] ps qs a t x y o p = x ∙ sym y
 same_pieces f b g (i ∷ chunks) [] qs a t x y o p = absurd x
 same_pieces f b g (i ∷ chunks) (k ∷ ps) [] a t x y o p = absurd y
 same_pieces f b g (i ∷ chunks) (k ∷ ps) (l ∷ qs) a t (x, xs) (y, ys) o p =
-    let first = same_asked f 1 (homes_of b g i) k l a t x y (front_gets f k (joined ps) a o) (front_gets f l (joined qs) a p) in
+    let first =
+    same_asked f 1 (homes_of b g i) k l a t x y (front_gets f k (joined ps) a o) (front_gets f l (joined qs) a p) in
     let rest = same_pieces f b g chunks ps qs (did_all (gets f k) a) (tells_all (gets f k) a t) xs ys
     (behind_gets f k (joined ps) a o)
     (subst (λ (u : List Ask). Okay (gets f (joined qs)) (did_all (gets f u) a)) (sym first) (behind_gets f l

@@ -44,7 +44,8 @@ same-mod a b d pos e h k =
 abbrev moved : ℕ → ℕ → ℕ → ℕ
 moved copied i e = i + e * copied
 
-moved-near : (copied k most i j e f : ℕ) → k ≤ copied → i < j + k → e ≤ most → moved copied i e < moved copied j f + (most + 1) * copied
+moved-near : (copied k most i j e f : ℕ) → k ≤ copied → i < j + k → e ≤ most
+    → moved copied i e < moved copied j f + (most + 1) * copied
 moved-near copied k most i j e f narrow h few =
     let more = mul-le-mul_right copied few in
     omega arith
@@ -62,7 +63,8 @@ pub record IsOne (i j e f : ℕ) : Type 0 where
   pub copy : e ≡ f
 
 -- of chunks and copies in one stripe, no two have one column
-same-moved : (copied k widest most i j e f : ℕ) → 0 < widest → k ≤ widest → (0 < most → k ≤ copied) → (0 < most → (most + 1) * copied ≤ widest)
+same-moved : (copied k widest most i j e f : ℕ) → 0 < widest → k ≤ widest → (0 < most → k ≤ copied)
+    → (0 < most → (most + 1) * copied ≤ widest)
     → i < j + k → j < i + k → e ≤ most → f ≤ most
     → moved copied i e % widest ≡ moved copied j f % widest → IsOne i j e f
 same-moved copied k widest zero i j e f pos wide narrow room ij ji he hf same =
@@ -78,7 +80,8 @@ same-moved copied k widest (suc most) i j e f pos wide narrow room ij ji he hf s
     let one = same-mod (moved copied i e) (moved copied j f) widest pos same
     (omega (arith, moved-near copied k (suc most) i j e f thin ij he))
     (omega (arith, moved-near copied k (suc most) j i f e thin ji hf)) in
-    let copy : e ≡ f = omega (arith, copy-le copied k i j e f thin ji one, copy-le copied k j i f e thin ij (sym one)) in
+    let copy : e ≡ f = omega (arith, copy-le copied k i j e f thin ji one, copy-le copied k j i f e thin ij (sym one))
+    in
     let moved : e * copied ≡ f * copied = ap (λ n. n * copied) copy in
     record { chunk = omega arith; copy = copy }
 
@@ -89,7 +92,8 @@ record Room (b : BookFacts) (g : ℕ) : Type 0 where
   pub width : 0 < width_at b.shape.stages g
   pub wide : width_at b.shape.stages g ≤ max_width b.shape.stages
   pub narrow : 0 < copies_at b.shape.stages g → width_at b.shape.stages g ≤ max_copied_width b.shape.stages
-  pub copies : 0 < copies_at b.shape.stages g → (copies_at b.shape.stages g + 1) * max_copied_width b.shape.stages ≤ max_width b.shape.stages
+  pub copies : 0 < copies_at b.shape.stages g
+      → (copies_at b.shape.stages g + 1) * max_copied_width b.shape.stages ≤ max_width b.shape.stages
   pub parities : parities_at b.shape.stages g ≤ parities_at b.shape.stages 0
   pub servers : max_width b.shape.stages + parities_at b.shape.stages 0 ≤ b.shape.servers
 
@@ -104,25 +108,34 @@ room_for b book g below =
       narrow = width_at-le-max_copied b.shape.stages g below;
       copies = λ some.
           let all = book.shape.copies (omega arith) in
-          let more : (copies_at b.shape.stages g + 1) * max_copied_width b.shape.stages ≤ (copies_at b.shape.stages 0 + 1) * max_copied_width b.shape.stages = mul-le-mul_right (max_copied_width b.shape.stages) (omega arith) in
+          let more : (copies_at b.shape.stages g + 1) * max_copied_width b.shape.stages ≤
+          (copies_at b.shape.stages 0 + 1) * max_copied_width b.shape.stages =
+          mul-le-mul_right (max_copied_width b.shape.stages) (omega arith) in
           omega arith;
       parities = parities_at-le-first chain g below;
       servers = book.shape.servers.0;
     }
 
 -- copy e of chunk i stands in this column
-column-data : (b : BookFacts) (i : ℕ) → column_of b (name.Data i) ≡ moved (max_copied_width b.shape.stages) i 0 % max_width b.shape.stages
+column-data : (b : BookFacts) (i : ℕ) → column_of b (name.Data i)
+    ≡ moved (max_copied_width b.shape.stages) i 0 % max_width b.shape.stages
 column-data b i = ap (λ n. n % max_width b.shape.stages) (omega arith)
 
-chunk-moved : (b : BookFacts) (g : ℕ) → Room b g → (i j e f : ℕ) → i / width_at b.shape.stages g ≡ j / width_at b.shape.stages g → e ≤ copies_at b.shape.stages g → f ≤ copies_at b.shape.stages g
-    → moved (max_copied_width b.shape.stages) i e % max_width b.shape.stages ≡ moved (max_copied_width b.shape.stages) j f % max_width b.shape.stages → IsOne i j e f
+chunk-moved : (b : BookFacts) (g : ℕ) → Room b g → (i j e f : ℕ)
+    → i / width_at b.shape.stages g ≡ j / width_at b.shape.stages g → e ≤ copies_at b.shape.stages g
+    → f ≤ copies_at b.shape.stages g
+    → moved (max_copied_width b.shape.stages) i e % max_width b.shape.stages
+    ≡ moved (max_copied_width b.shape.stages) j f % max_width b.shape.stages → IsOne i j e f
 chunk-moved b g room i j e f stripe he hf same =
-    same-moved (max_copied_width b.shape.stages) (width_at b.shape.stages g) (max_width b.shape.stages) (copies_at b.shape.stages g) i j e f
+    same-moved (max_copied_width b.shape.stages) (width_at b.shape.stages g) (max_width b.shape.stages)
+    (copies_at b.shape.stages g) i j e f
     room.widest room.wide room.narrow room.copies
-    (near i j (width_at b.shape.stages g) room.width stripe) (near j i (width_at b.shape.stages g) room.width (sym stripe)) he hf same
+    (near i j (width_at b.shape.stages g) room.width stripe)
+    (near j i (width_at b.shape.stages g) room.width (sym stripe)) he hf same
 
 -- the columns of one stripe are apart
-one-column : (b : BookFacts) (g : ℕ) → Room b g → (x y : Name) → Holds b g x → Holds b g y → stripe_of b g x ≡ stripe_of b g y → column_of b x ≡ column_of b y → x ≡ y
+one-column : (b : BookFacts) (g : ℕ) → Room b g → (x y : Name) → Holds b g x → Holds b g y
+    → stripe_of b g x ≡ stripe_of b g y → column_of b x ≡ column_of b y → x ≡ y
 one-column b g room (name.Data i) (name.Data j) hx hy stripe column =
     let few : 0 ≤ copies_at b.shape.stages g = omega arith in
     let one = chunk-moved b g room i j 0 0 stripe few few (sym (column-data b i) ∙ column ∙ column-data b j) in
@@ -160,8 +173,10 @@ one-column b g room (name.Parity w j p) (name.Parity v k r) hx hy stripe column 
 -- a held name's column is one of the servers
 column-below : (b : BookFacts) (g : ℕ) → Room b g → (x : Name) → Holds b g x → column_of b x < b.shape.servers
 column-below b g room (name.Data i) h = let low = mod-lt i room.widest in let fits = room.servers in omega arith
-column-below b g room (name.Copy c i) h = let low = mod-lt (i + (c + 1) * max_copied_width b.shape.stages) room.widest in let fits = room.servers in omega arith
-column-below b g room (name.Parity w j p) h = let fits = room.servers in let few = room.parities in let mine = h.2 in omega arith
+column-below b g room (name.Copy c i) h = let low =
+    mod-lt (i + (c + 1) * max_copied_width b.shape.stages) room.widest in let fits = room.servers in omega arith
+column-below b g room (name.Parity w j p) h = let fits = room.servers in let few = room.parities in let mine =
+    h.2 in omega arith
 
 pub IsApart-from : (b : BookFacts) → IsBook b → (x : Name) → IsApart b x
 IsApart-from b book x = record {
@@ -171,6 +186,7 @@ IsApart-from b book x = record {
       let held_y = Holds-from b g y hy in
       let low_x = column-below b g room x held_x in
       let low_y = column-below b g room y held_y in
-      let sum : b.file + column_of b x ≡ b.file + column_of b y = same-mod _ _ b.shape.servers (omega arith) server (omega arith) (omega arith) in
+      let sum : b.file + column_of b x ≡ b.file + column_of b y =
+      same-mod _ _ b.shape.servers (omega arith) server (omega arith) (omega arith) in
       one-column b g room x y held_x held_y stripe (omega arith);
 }

@@ -1,5 +1,6 @@
 -- How many parities there are.
-use Rattle.std.proofs.Common.{◌≡◌, ℕ, suc, zero, ◌+◌, ◌*◌, ◌/◌, ◌%◌, ◌<◌, ◌≤◌, max, cond, eqb, List, [], ◌∷◌, ◌++◌, length, take, get_or, refl, ap, ◌∙◌, sym, subst, ⊎_elim, arith}
+use Rattle.std.proofs.Common.{◌≡◌, ℕ, suc, zero, ◌+◌, ◌*◌, ◌/◌, ◌%◌, ◌<◌, ◌≤◌, max, cond, eqb, List, [], ◌∷◌, ◌++◌}
+use Rattle.std.proofs.Common.{length, take, get_or, refl, ap, ◌∙◌, sym, subst, ⊎_elim, arith}
 use Rattle.std.proofs.lemmas.Bool.{cases_lt}
 use Rattle.std.proofs.lemmas.Grind.{div_ceil_times}
 use Rattle.std.proofs.lemmas.Bool.Decides.{nat_tests}
@@ -20,13 +21,16 @@ abbrev pub counted : ℕ → Stage → ℕ
 counted width stage = cond (eqb stage.width width) stage.parities 0
 
 -- what bounds the parities of each stage of the width bounds the greatest
-pub max_parities-le : (width : ℕ) (s : List Stage) (m : ℕ) → ((g : ℕ) → g < length s → counted width (stage_at s g) ≤ m) → max_parities width s ≤ m
+pub max_parities-le : (width : ℕ) (s : List Stage) (m : ℕ) → ((g : ℕ) → g < length s → counted width (stage_at s g) ≤ m)
+    → max_parities width s ≤ m
 max_parities-le width s m h = max_least (max_parities width) (counted width) refl (λ _ _. refl) s no_stage m h
 
 -- one stage more
-pub max_parities-more : (width : ℕ) (s : List Stage) (i : ℕ) → i < length s → max_parities width (take (i + 1) s) ≡ max (max_parities width (take i s)) (counted width (stage_at s i))
+pub max_parities-more : (width : ℕ) (s : List Stage) (i : ℕ) → i < length s
+    → max_parities width (take (i + 1) s) ≡ max (max_parities width (take i s)) (counted width (stage_at s i))
 max_parities-more width s i h =
-    ap (max_parities width) (take_more s i no_stage h) ∙ max_push (max_parities width) (counted width) refl (λ _ _. refl) (take i s) (stage_at s i)
+    ap (max_parities width) (take_more s i no_stage h)
+    ∙ max_push (max_parities width) (counted width) refl (λ _ _. refl) (take i s) (stage_at s i)
 
 counted-le : (width : ℕ) (stage : Stage) → counted width stage ≤ stage.parities
 counted-le width stage = grind (arith, nat_tests)
@@ -54,13 +58,15 @@ max_parities-zero {s} chain =
     omega (arith, max_parities-le 0 s 0 (λ g h. counted-none (stage_at s g) (chain.widths g h).0))
 
 -- a width that has parities is a stage's, and at most the greatest
-max_parities-step : (width a p rest widest : ℕ) → (0 < rest → width ≤ widest) → 0 < max (cond (eqb a width) p 0) rest → width ≤ max a widest
+max_parities-step : (width a p rest widest : ℕ) → (0 < rest → width ≤ widest) → 0 < max (cond (eqb a width) p 0) rest
+    → width ≤ max a widest
 max_parities-step width a p rest widest ih h = grind (arith, nat_tests)
 
 pub max_parities-some : (width : ℕ) (s : List Stage) → 0 < max_parities width s → width ≤ max_width s
 max_parities-some width [] h = absurd (omega arith)
 max_parities-some width (x ∷ rest) h =
-    max_parities-step width x.width x.parities (max_parities width rest) (max_width rest) (max_parities-some width rest) h
+    max_parities-step width x.width x.parities (max_parities width rest) (max_width rest) (max_parities-some width rest)
+    h
 
 -- m chunks make at most m stripes
 pub div_ceil-le : (m width : ℕ) → 0 < width → div_ceil m width ≤ m
@@ -76,24 +82,29 @@ div_ceil-le m width h = ⊎_elim
 -- the parities of one width
 pub parities_in-le : {s : List Stage} → IsChain s → (m width : ℕ) → m ≤ 1024 → parities_in m s width ≤ 4096
 parities_in-le {s} chain m zero h = rw (max_parities-zero chain) (omega arith)
-parities_in-le {s} chain m (suc width) h = mul-le _ _ 1024 4 (omega (arith, div_ceil-le m (suc width) (omega arith))) (max_parities-le-four chain (suc width))
+parities_in-le {s} chain m (suc width) h =
+    mul-le _ _ 1024 4 (omega (arith, div_ceil-le m (suc width) (omega arith))) (max_parities-le-four chain (suc width))
 
-pub parities_below-le : {s : List Stage} → IsChain s → (m width : ℕ) → m ≤ 1024 → parities_below m s width ≤ width * 4096
+pub parities_below-le : {s : List Stage} → IsChain s → (m width : ℕ) → m ≤ 1024
+    → parities_below m s width ≤ width * 4096
 parities_below-le chain m zero h = omega arith
 parities_below-le {s} chain m (suc width) h =
     omega (arith, parities_below-le chain m width h, parities_in-le chain m width h)
 
 -- more widths have no fewer parities
 pub parities_below-grows : (m : ℕ) (s : List Stage) (a b : ℕ) → a ≤ b → parities_below m s a ≤ parities_below m s b
-parities_below-grows m s a zero h = let e : a ≡ 0 = omega arith in subst (λ (x : ℕ). parities_below m s x ≤ 0) (sym e) (omega arith)
+parities_below-grows m s a zero h = let e : a ≡ 0 =
+    omega arith in subst (λ (x : ℕ). parities_below m s x ≤ 0) (sym e) (omega arith)
 parities_below-grows m s a (suc b) h = ⊎_elim
     (λ below. omega (arith, parities_below-grows m s a b (omega arith)))
-    (λ above. let e : a ≡ suc b = omega arith in subst (λ (x : ℕ). parities_below m s x ≤ parities_below m s (suc b)) (sym e) (omega arith))
+    (λ above. let e : a ≡ suc b =
+    omega arith in subst (λ (x : ℕ). parities_below m s x ≤ parities_below m s (suc b)) (sym e) (omega arith))
     (cases_lt a (suc b))
 
 -- a number below the parities of the widths below n is one of some width
 pub parities_below-find : (m : ℕ) (s : List Stage) (n k : ℕ) → k < parities_below m s n
-    → (width : ℕ) × (width < n) × (parities_below m s width ≤ k) × (k < parities_below m s width + parities_in m s width)
+    → (width : ℕ) × (width < n) × (parities_below m s width ≤ k)
+    × (k < parities_below m s width + parities_in m s width)
 parities_below-find m s zero k h = absurd (omega arith)
 parities_below-find m s (suc n) k h = ⊎_elim
     (λ below. let found = parities_below-find m s n k below in (found.0, omega (arith, found.1), found.2, found.3))
@@ -101,7 +112,8 @@ parities_below-find m s (suc n) k h = ⊎_elim
     (cases_lt k (parities_below m s n))
 
 -- one width more
-pub first_in-more : (m : ℕ) (s : List Stage) (width : ℕ) → first_in m s (width + 1) ≡ first_in m s width + parities_in m s width
+pub first_in-more : (m : ℕ) (s : List Stage) (width : ℕ)
+    → first_in m s (width + 1) ≡ first_in m s width + parities_in m s width
 first_in-more m s width =
     let e : width + 1 ≡ suc width = omega arith in
     ap (first_in m s) e ∙ omega arith
@@ -109,17 +121,23 @@ first_in-more m s width =
 -- no number is large
 pub first_in-le : {s : List Stage} → IsChain s → (m width : ℕ) → m ≤ 1024 → width ≤ 65 → first_in m s width ≤ 300000
 first_in-le {s} chain m width short narrow =
-    omega (arith, parities_below-le chain m width short, mul-le (copies_at s 0) m 2 1024 (chain.copies 0 chain.some) short)
+    omega (
+      arith,
+      parities_below-le chain m width short,
+      mul-le (copies_at s 0) m 2 1024 (chain.copies 0 chain.some) short,
+    )
 
 -- the table of first numbers, one width more
-pub IsFirsts-more : (m : ℕ) (s : List Stage) (n : ℕ) (v : List ℕ) (first : ℕ) → IsFirsts m s n v → first ≡ first_in m s n → IsFirsts m s (n + 1) (v ++ first ∷ [])
+pub IsFirsts-more : (m : ℕ) (s : List Stage) (n : ℕ) (v : List ℕ) (first : ℕ) → IsFirsts m s n v
+    → first ≡ first_in m s n → IsFirsts m s (n + 1) (v ++ first ∷ [])
 IsFirsts-more m s n v first table e = record {
   count = omega (arith, length_push v first, table.count);
   first = λ width below. ⊎_elim
       (λ old. get_or_append_left v (first ∷ []) 0 width (omega (arith, table.count)) ∙ table.first width (omega arith))
       (λ new.
       let last : width ≡ n = omega arith in
-      ap (λ k. get_or (v ++ first ∷ []) k 0) last ∙ get_or_push v first 0 n table.count ∙ e ∙ ap (first_in m s) (sym last))
+      ap (λ k. get_or (v ++ first ∷ []) k 0) last ∙ get_or_push v first 0 n table.count ∙ e
+      ∙ ap (first_in m s) (sym last))
       (cases_lt width n);
 }
 
@@ -131,4 +149,7 @@ width-some chain (suc width) h = omega arith
 -- a number among the parities of a width has a stripe and a point
 pub parity-parts : (stripes r at : ℕ) → at < stripes * r → (at / r < stripes) × (at % r < r)
 parity-parts stripes zero at below = absurd (omega arith)
-parity-parts stripes (suc r) at below = (div_below at (suc r) stripes (omega arith) below, mod_below at (suc r) (omega arith))
+parity-parts stripes (suc r) at below = (
+  div_below at (suc r) stripes (omega arith) below,
+  mod_below at (suc r) (omega arith),
+)

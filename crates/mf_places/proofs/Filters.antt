@@ -1,5 +1,6 @@
 -- What a test keeps of a list that is made over a range.
-use Rattle.std.proofs.Common.{◌≡◌, ◌≢◌, ℕ, suc, zero, ◌+◌, ◌-◌, ◌<◌, ◌≤◌, ◌⊎◌, min, Bool, true, false, cond, List, [], ◌∷◌, ◌++◌, map, filter, refl, ap, ◌∙◌, sym, subst, inl, inr, ⊎_elim, arith}
+use Rattle.std.proofs.Common.{◌≡◌, ◌≢◌, ℕ, suc, zero, ◌+◌, ◌-◌, ◌<◌, ◌≤◌, ◌⊎◌, min, Bool, true, false, cond, List, []}
+use Rattle.std.proofs.Common.{◌∷◌, ◌++◌, map, filter, refl, ap, ◌∙◌, sym, subst, inl, inr, ⊎_elim, arith}
 use Rattle.std.proofs.lemmas.Bool.{cases_lt}
 use Rattle.std.proofs.lemmas.List.{append-nil}
 use Rattle.std.proofs.lemmas.List.Elements.{filter-append}
@@ -48,7 +49,8 @@ filter-run p f lo hi passes fails (suc n) =
     (cases_lt n lo))
 
 -- of pieces that all fail nothing is left
-pub filter-no_piece : {X : Type 0} (p : X → Bool) (f : ℕ → List X) (n : ℕ) → ((i : ℕ) → i < n → filter p (f i) ≡ []) → filter p (flat_map f (range_with_len 0 n)) ≡ []
+pub filter-no_piece : {X : Type 0} (p : X → Bool) (f : ℕ → List X) (n : ℕ) → ((i : ℕ) → i < n → filter p (f i) ≡ [])
+    → filter p (flat_map f (range_with_len 0 n)) ≡ []
 filter-no_piece p f zero fails = refl
 filter-no_piece p f (suc n) fails =
     let e : n + 1 ≡ suc n = omega arith in
@@ -59,7 +61,8 @@ filter-no_piece p f (suc n) fails =
 
 -- of pieces of which those below hi keep something
 pub filter-pieces : {X : Type 0} (p : X → Bool) (f g : ℕ → List X) (hi : ℕ) → ((i : ℕ) → i < hi → filter p (f i) ≡ g i)
-    → ((i : ℕ) → hi ≤ i → filter p (f i) ≡ []) → (n : ℕ) → filter p (flat_map f (range_with_len 0 n)) ≡ flat_map g (range_with_len 0 (min hi n))
+    → ((i : ℕ) → hi ≤ i → filter p (f i) ≡ []) → (n : ℕ)
+    → filter p (flat_map f (range_with_len 0 n)) ≡ flat_map g (range_with_len 0 (min hi n))
 filter-pieces p f g hi passes fails zero =
     let none : 0 ≡ min hi 0 = omega arith in ap (λ k. flat_map g (range_with_len 0 k)) none
 filter-pieces p f g hi passes fails (suc n) =

@@ -16,7 +16,8 @@ use Rattle.mf_places.proofs.Counts.{parities_at-le-max}
 abbrev pub Holds : BookFacts → ℕ → Name → Type 0
 Holds b g (name.Data i) = i < chunks_of b
 Holds b g (name.Copy c i) = (c < copies_at b.shape.stages g) × (i < chunks_of b)
-Holds b g (name.Parity width j p) = (width ≡ width_at b.shape.stages g) × (j < stripes_of b width) × (p < parities_at b.shape.stages g)
+Holds b g (name.Parity width j p) = (width ≡ width_at b.shape.stages g) × (j < stripes_of b width)
+    × (p < parities_at b.shape.stages g)
 
 pub Holds-from : (b : BookFacts) (g : ℕ) (x : Name) → IsTrue (holds b g x) → Holds b g x
 Holds-from b g (name.Data i) h = grind (arith, nat_tests)
@@ -48,12 +49,14 @@ copied_width-own : (stage : Stage) → 0 < stage.copies → stage.width ≤ copi
 copied_width-own stage h = grind (arith, nat_tests)
 
 -- a stage with copies is at most as wide as the widest of these
-pub width_at-le-max_copied : (s : List Stage) (g : ℕ) → g < length s → 0 < copies_at s g → width_at s g ≤ max_copied_width s
+pub width_at-le-max_copied : (s : List Stage) (g : ℕ) → g < length s → 0 < copies_at s g
+    → width_at s g ≤ max_copied_width s
 width_at-le-max_copied s g h some =
     omega (arith, copied_width-own (stage_at s g) some, copied_width-le-max s g h)
 
 -- what a generation holds the file has
-pub HasName-from_holds : (b : BookFacts) → IsChain b.shape.stages → (g : ℕ) → g < length b.shape.stages → (x : Name) → Holds b g x → HasName b x
+pub HasName-from_holds : (b : BookFacts) → IsChain b.shape.stages → (g : ℕ) → g < length b.shape.stages → (x : Name)
+    → Holds b g x → HasName b x
 HasName-from_holds b chain g below (name.Data i) h = h
 HasName-from_holds b chain g below (name.Copy c i) h = (omega (arith, copies_at-le-first chain g below, h.0), h.1)
 HasName-from_holds b chain g below (name.Parity width j p) h =

@@ -1,9 +1,11 @@
 -- The numbers below n that pass a test, ascending.
-use Rattle.std.proofs.Common.{◌≡◌, ℕ, suc, zero, ◌+◌, ◌<◌, Bool, true, false, cond, List, [], ◌∷◌, ◌++◌, filter, ap, ◌∙◌, sym, subst, ⊎_elim, arith, Contains}
+use Rattle.std.proofs.Common.{◌≡◌, ℕ, suc, zero, ◌+◌, ◌<◌, Bool, true, false, cond, List, [], ◌∷◌, ◌++◌, filter, ap}
+use Rattle.std.proofs.Common.{◌∙◌, sym, subst, ⊎_elim, arith, Contains}
 use Rattle.std.proofs.lemmas.Bool.{cases_lt, cases_Bool}
 use Rattle.std.proofs.lemmas.List.{map-id, append-nil}
 use Rattle.std.proofs.lemmas.List.Elements.{Contains-append_left, Contains-push, Contains-push_cases}
-use Rattle.std.proofs.lemmas.List.FromFn.{filter_of_map_range_with_len_more, length-range_with_len, get_or-range_with_len}
+use Rattle.std.proofs.lemmas.List.FromFn.{filter_of_map_range_with_len_more, length-range_with_len}
+use Rattle.std.proofs.lemmas.List.FromFn.{get_or-range_with_len}
 use Rattle.std.proofs.lemmas.List.Kept.{IsStrictlyIncreasing-filter}
 use Rattle.std.specs.List.{range_with_len}
 use Rattle.std.specs.List.Sorted.{IsStrictlyIncreasing}
@@ -46,7 +48,8 @@ Passes-from p (suc n) s h =
     (λ before. let rest = Passes-from p n s before in record { below = omega (arith, rest.below); test = rest.test })
     (λ last. record { below = omega (arith, last); test = ap p (sym last) ∙ yes })
     (Contains-push_cases (passing p n) n s (subst (λ ys. Contains ys s) (ap (passing p) e ∙ passing-yes p n yes) h)))
-    (λ no. let rest = Passes-from p n s (subst (λ ys. Contains ys s) (ap (passing p) e ∙ passing-no p n no) h) in record { below = omega (arith, rest.below); test = rest.test })
+    (λ no. let rest = Passes-from p n s (subst (λ ys. Contains ys s) (ap (passing p) e
+    ∙ passing-no p n no) h) in record { below = omega (arith, rest.below); test = rest.test })
     (cases_Bool (p n))
 
 pub Contains-passing : (p : ℕ → Bool) (n s : ℕ) → s < n → p s ≡ true → Contains (passing p n) s
@@ -54,8 +57,10 @@ Contains-passing p zero s below h = absurd (omega arith)
 Contains-passing p (suc n) s below h =
     let e : n + 1 ≡ suc n = omega arith in
     subst (λ (k : ℕ). Contains (passing p k) s) e (⊎_elim
-    (λ before. subst (λ ys. Contains ys s) (sym (passing-more p n)) (Contains-append_left (passing p n) (cond (p n) (n ∷ []) []) s (Contains-passing p n s before h)))
+    (λ before. subst (λ ys. Contains ys s) (sym (passing-more p n))
+    (Contains-append_left (passing p n) (cond (p n) (n ∷ []) []) s (Contains-passing p n s before h)))
     (λ last.
     let own : n ≡ s = omega arith in
-    subst (λ ys. Contains ys s) (sym (passing-yes p n (ap p own ∙ h))) (subst (λ (k : ℕ). Contains (passing p n ++ n ∷ []) k) own (Contains-push (passing p n) n)))
+    subst (λ ys. Contains ys s) (sym (passing-yes p n (ap p own
+    ∙ h))) (subst (λ (k : ℕ). Contains (passing p n ++ n ∷ []) k) own (Contains-push (passing p n) n)))
     (cases_lt s n))

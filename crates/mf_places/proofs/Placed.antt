@@ -30,14 +30,18 @@ column_of-le b book (name.Parity width j p) h =
 
 -- a chunk is in one of the stripes
 pub chunk-in_stripe : (i m width : ℕ) → 0 < width → i < m → i / width < div_ceil m width
-chunk-in_stripe i m width pos below = div_below i width (div_ceil m width) pos (omega (arith, (div_ceil_times m width pos).0))
+chunk-in_stripe i m width pos below =
+    div_below i width (div_ceil m width) pos (omega (arith, (div_ceil_times m width pos).0))
 
 -- the stripe of a held name is one of the file's
-pub stripe_of-below : (b : BookFacts) → IsBook b → (g : ℕ) → g < length b.shape.stages → (x : Name) → IsTrue (holds b g x) → stripe_of b g x < stripes_of b (width_at b.shape.stages g)
+pub stripe_of-below : (b : BookFacts) → IsBook b → (g : ℕ) → g < length b.shape.stages → (x : Name)
+    → IsTrue (holds b g x) → stripe_of b g x < stripes_of b (width_at b.shape.stages g)
 stripe_of-below b book g below (name.Data i) held =
-    chunk-in_stripe i (chunks_of b) (width_at b.shape.stages g) (book.shape.chain.widths g below).0 (Holds-from b g (name.Data i) held)
+    chunk-in_stripe i (chunks_of b) (width_at b.shape.stages g) (book.shape.chain.widths g below).0
+    (Holds-from b g (name.Data i) held)
 stripe_of-below b book g below (name.Copy c i) held =
-    chunk-in_stripe i (chunks_of b) (width_at b.shape.stages g) (book.shape.chain.widths g below).0 (Holds-from b g (name.Copy c i) held).1
+    chunk-in_stripe i (chunks_of b) (width_at b.shape.stages g) (book.shape.chain.widths g below).0
+    (Holds-from b g (name.Copy c i) held).1
 stripe_of-below b book g below (name.Parity w j p) held =
     let h = Holds-from b g (name.Parity w j p) held in
     subst (λ (k : ℕ). j < stripes_of b k) h.0 h.1

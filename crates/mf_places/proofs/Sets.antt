@@ -1,9 +1,12 @@
 -- Sets of servers.
-use Rattle.std.proofs.Common.{◌≡◌, ℕ, ◌^◌, ◌<◌, ◌⊎◌, List, [], ◌∷◌, ap, ◌∙◌, sym, subst, inl, inr, ⊎_elim, arith, lit<, Contains, IsBitSet, ◌↔◌, fold}
+use Rattle.std.proofs.Common.{◌≡◌, ℕ, ◌^◌, ◌<◌, ◌⊎◌, List, [], ◌∷◌, ap, ◌∙◌, sym, subst, inl, inr, ⊎_elim, arith, lit<}
+use Rattle.std.proofs.Common.{Contains, IsBitSet, ◌↔◌, fold}
 use Rattle.std.proofs.lemmas.Bool.{cases_lt, cases_eq, eqb-true, eq-eqb, lt-ltb, le-ltb}
 use Rattle.std.proofs.lemmas.Nat.{or_lt, bit_set_by_shift}
-use Rattle.std.proofs.lemmas.Nat.Bits.{bit_at-zero, bit_at_or, bit_at-pow_same, bit_at-pow_other, bit_at-lt, bit_at_above, same_from_bits_below, shr_and_one}
-use Rattle.std.proofs.lemmas.List.Elements.{Contains-append_cases, Contains-append_left, Contains-append_right, Contains-push, Contains-push_cases}
+use Rattle.std.proofs.lemmas.Nat.Bits.{bit_at-zero, bit_at_or, bit_at-pow_same, bit_at-pow_other, bit_at-lt}
+use Rattle.std.proofs.lemmas.Nat.Bits.{bit_at_above, same_from_bits_below, shr_and_one}
+use Rattle.std.proofs.lemmas.List.Elements.{Contains-append_cases, Contains-append_left, Contains-append_right}
+use Rattle.std.proofs.lemmas.List.Elements.{Contains-push, Contains-push_cases}
 use Rattle.std.proofs.Math.Pow.{pow-lt}
 use Rattle.std.specs.Int.{bit_at}
 use Rattle.mf_places.specs.declared.servers.Servers.{Servers}
@@ -36,7 +39,8 @@ with-before set x s h = ⊎_elim
     (λ above. rw (le-ltb x 128 above) h)
     (cases_lt x 128)
 
-with-only : (set : Servers) (x s : ℕ) → bit_at (with_server set x).bits s ≡ 1 → ((x ≡ s) × (x < 128)) ⊎ (bit_at set.bits s ≡ 1)
+with-only : (set : Servers) (x s : ℕ) → bit_at (with_server set x).bits s ≡ 1
+    → ((x ≡ s) × (x < 128)) ⊎ (bit_at set.bits s ≡ 1)
 with-only set x s = ⊎_elim
     (λ below. rw (lt-ltb x 128 below) (λ h. ⊎_elim
     (λ same. inl (same, below))
@@ -55,7 +59,8 @@ pub set_of-lt : (xs : List ℕ) → (set_of xs).bits < 2 ^ 128
 unfolding set_of
 set_of-lt xs = from-lt no_servers xs (lit< tt)
 
-from-before : (set : Servers) (xs : List ℕ) (s : ℕ) → bit_at set.bits s ≡ 1 → bit_at (fold with_server set xs).bits s ≡ 1
+from-before : (set : Servers) (xs : List ℕ) (s : ℕ) → bit_at set.bits s ≡ 1
+    → bit_at (fold with_server set xs).bits s ≡ 1
 from-before set [] s h = h
 from-before set (x ∷ xs) s h = from-before (with_server set x) xs s (with-before set x s h)
 
@@ -67,7 +72,8 @@ from-has set [] s below h = absurd (omega (arith, h.1))
 from-has set (x ∷ xs) s below h = ⊎_elim
     (λ first.
     let e = one-is x s first in
-    from-before (with_server set x) xs s (subst (λ (k : ℕ). bit_at (with_server set x).bits k ≡ 1) e (with-own set x (omega arith))))
+    from-before (with_server set x) xs s (subst (λ (k : ℕ). bit_at (with_server set x).bits k
+    ≡ 1) e (with-own set x (omega arith))))
     (λ later. from-has (with_server set x) xs s below later)
     (Contains-append_cases (x ∷ []) xs s h)
 
@@ -75,11 +81,15 @@ pub set_of-has : (xs : List ℕ) (s : ℕ) → s < 128 → Contains xs s → bit
 unfolding set_of
 set_of-has xs s below h = from-has no_servers xs s below h
 
-from-only : (set : Servers) (xs : List ℕ) (s : ℕ) → bit_at (fold with_server set xs).bits s ≡ 1 → (bit_at set.bits s ≡ 1) ⊎ ((s < 128) × Contains xs s)
+from-only : (set : Servers) (xs : List ℕ) (s : ℕ) → bit_at (fold with_server set xs).bits s ≡ 1
+    → (bit_at set.bits s ≡ 1) ⊎ ((s < 128) × Contains xs s)
 from-only set [] s h = inl h
 from-only set (x ∷ xs) s h = ⊎_elim
     (λ before. ⊎_elim
-    (λ own. inr (omega (arith, own.0, own.1), subst (λ (k : ℕ). Contains (x ∷ xs) k) own.0 (Contains-append_left (x ∷ []) xs x (Contains-push [] x))))
+    (λ own. inr (
+      omega (arith, own.0, own.1),
+      subst (λ (k : ℕ). Contains (x ∷ xs) k) own.0 (Contains-append_left (x ∷ []) xs x (Contains-push [] x)),
+    ))
     (λ old. inl old)
     (with-only set x s before))
     (λ rest. inr (rest.0, Contains-append_right (x ∷ []) xs s rest.1))
@@ -87,7 +97,10 @@ from-only set (x ∷ xs) s h = ⊎_elim
 
 pub set_of-only : (xs : List ℕ) (s : ℕ) → bit_at (set_of xs).bits s ≡ 1 → (s < 128) × Contains xs s
 unfolding set_of
-set_of-only xs s h = ⊎_elim (λ none. absurd (omega (arith, bit_at-zero s))) (λ found. found) (from-only no_servers xs s h)
+set_of-only xs s h = ⊎_elim (λ none. absurd (omega (
+  arith,
+  bit_at-zero s,
+))) (λ found. found) (from-only no_servers xs s h)
 
 -- a number is in the set of a list where it is small and stands there
 pub in-set_of : (xs : List ℕ) (s : ℕ) → IsIn (set_of xs) s ↔ ((s < 128) × Contains xs s)
@@ -112,7 +125,8 @@ in-from_list set s h =
 back-bit : (set : Servers) → set.bits < 2 ^ 128 → (s : ℕ) → bit_at (set_of (servers_of set)).bits s ≡ bit_at set.bits s
 back-bit set fits s = ⊎_elim
     (λ one.
-    let below : s < 128 = ⊎_elim (λ low. low) (λ high. absurd (omega (arith, bit_at_above set.bits 128 s fits high))) (cases_lt s 128) in
+    let below : s < 128 =
+    ⊎_elim (λ low. low) (λ high. absurd (omega (arith, bit_at_above set.bits 128 s fits high))) (cases_lt s 128) in
     set_of-has (servers_of set) s below (listed set s (below, (set-bit set.bits s).1 one)) ∙ sym one)
     (λ other.
     let low = bit_at-lt set.bits s in
@@ -125,7 +139,8 @@ back-bit set fits s = ⊎_elim
 
 pub set_of-servers_of : (set : Servers) → set.bits < 2 ^ 128 → set_of (servers_of set) ≡ set
 set_of-servers_of set fits =
-    let same = same_from_bits_below 128 (set_of (servers_of set)).bits set.bits (set_of-lt (servers_of set)) fits (λ s below. back-bit set fits s) in
+    let same = same_from_bits_below 128 (set_of (servers_of set)).bits set.bits (set_of-lt (servers_of set)) fits
+    (λ s below. back-bit set fits s) in
     let made : ℕ → Servers = λ bits. record { bits = bits } in
     ap made same
 

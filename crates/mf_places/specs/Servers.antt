@@ -15,7 +15,8 @@ no_servers = record { bits = 0 }
 
 -- The set with one server more. A server above 127 changes nothing.
 abbrev pub with_server : Servers → ℕ → Servers
-with_server set server = record { bits = (if nat_lt server MAX_SERVERS then bit_or set.bits (2 ^ server) else set.bits) }
+with_server set server =
+    record { bits = (if nat_lt server MAX_SERVERS then bit_or set.bits (2 ^ server) else set.bits) }
 
 -- The set of these servers.
 unfoldable pub set_of : List ℕ → Servers

@@ -79,8 +79,8 @@ impl Model for Book {
 }
 
 impl Book {
-    /// The book of file number `file` of `length` bytes, in chunks of `chunk` bytes, whose family has
-    /// this shape and these points. The only error is want of memory.
+    /// The book of file number `file` of `length` bytes, in chunks of `chunk` bytes, whose family
+    /// has this shape and these points. The only error is want of memory.
     pub fn new(
         alloc: Global,
         shape: &Shape,

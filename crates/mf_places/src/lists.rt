@@ -32,8 +32,8 @@ impl Book {
         Ok(found)
     }
 
-    /// The names of one stripe of generation g, in their order. A stripe that the file hasn't has none.
-    /// The only error is want of memory.
+    /// The names of one stripe of generation g, in their order. A stripe that the file hasn't has
+    /// none. The only error is want of memory.
     pub fn names_of(&self, g: u32, stripe: u32) -> Result<Vec<Name>, Memory>
         requires { g < length self.now.shape.stages }
         ensures sublist { IfOk result (λ found.

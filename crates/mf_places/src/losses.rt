@@ -39,7 +39,8 @@ impl Losses {
         }
     }
 
-    /// Adds a lose line behind the others. The only error is want of memory, and leaves all as it was.
+    /// Adds a lose line behind the others. The only error is want of memory, and leaves all as it
+    /// was.
     pub fn push(&mut self, line: u32, server: u32) -> Result<(), Memory>
         ensures added { OnOk result
             (self.new ≡ self.old ++ record { line = line; server = server } ∷ []) }

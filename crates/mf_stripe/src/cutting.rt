@@ -58,8 +58,8 @@ pub fn stripe_pieces(all: &[Chunk], width: u32, j: u32) -> &[Chunk]
 
 /// Appends the bytes of these pieces, as far as there is room below `most` bytes.
 ///
-/// The only error is want of memory; what is there then is a front of what would be there. A file is
-/// joined from its stripes, one after the other, with its length as `most`.
+/// The only error is want of memory; what is there then is a front of what would be there. A file
+/// is joined from its stripes, one after the other, with its length as `most`.
 pub fn join(out: &mut Vec<u8>, pieces: &[Chunk], most: usize) -> Result<(), Memory>
     requires { length out.old.items ≤ most }
     ensures joined { OnOk result

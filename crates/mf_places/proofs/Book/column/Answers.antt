@@ -11,7 +11,8 @@ overflow_add-result-in-Parity c =
     let book = subst (λ (v : BookFacts). IsBook v) c.self.view_is c.self.invariant.book in
     let low = column_of-le b book c.args.name c.requires in
     let is : column_of b c.args.name ≡ max_width b.shape.stages + c.in-Parity.p = ap (column_of b) c.in-Parity.is in
-    let same : max_width c.self.inside.shape.stages ≡ max_width b.shape.stages = ap (λ (v : BookFacts). max_width v.shape.stages) c.self.view_is in
+    let same : max_width c.self.inside.shape.stages ≡ max_width b.shape.stages =
+    ap (λ (v : BookFacts). max_width v.shape.stages) c.self.view_is in
     omega (arith, c.self.invariant.widest)
 
 pub returns-in-Parity-clause-bound : goal.returns-in-Parity-clause-bound
@@ -20,5 +21,6 @@ returns-in-Parity-clause-bound c =
     let book = subst (λ (v : BookFacts). IsBook v) c.self.view_is c.self.invariant.book in
     let low = column_of-le b book c.args.name c.requires in
     let is : column_of b c.args.name ≡ max_width b.shape.stages + c.in-Parity.p = ap (column_of b) c.in-Parity.is in
-    let same : max_width c.self.inside.shape.stages ≡ max_width b.shape.stages = ap (λ (v : BookFacts). max_width v.shape.stages) c.self.view_is in
+    let same : max_width c.self.inside.shape.stages ≡ max_width b.shape.stages =
+    ap (λ (v : BookFacts). max_width v.shape.stages) c.self.view_is in
     omega (arith, c.self.invariant.widest)

@@ -14,7 +14,11 @@ pub returns-then-n-first-clause-value : goal.returns-then-n-first-clause-value
 returns-then-n-first-clause-value c =
     let b = c.args.self.now in
     let chunks : c.self.inside.chunks ≡ chunks_of b = c.self.invariant.chunks ∙ ap chunks_of c.self.view_is in
-    rw chunks (name_at-copy b c.args.n (omega (arith, c.if-n-self.false)) (omega (arith, c.first.ensures.value, c.if-n-first.true)))
+    rw chunks (name_at-copy b c.args.n (omega (arith, c.if-n-self.false)) (omega (
+      arith,
+      c.first.ensures.value,
+      c.if-n-first.true,
+    )))
 
 pub returns-clause-value : goal.returns-clause-value
 returns-clause-value c =

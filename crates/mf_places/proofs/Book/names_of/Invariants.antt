@@ -5,4 +5,5 @@ use Rattle.mf_places.proofs.Book.names_of.Given as goal
 
 abbrev pub invariant-loop-c : goal.invariant-loop-c
 invariant-loop-c l =
-    l.found.items ≡ data_of_stripe l.self l.g l.stripe ++ flat_map (copy_of_stripe l.self l.g l.stripe) (range_with_len 0 l.c)
+    l.found.items ≡ data_of_stripe l.self l.g l.stripe
+    ++ flat_map (copy_of_stripe l.self l.g l.stripe) (range_with_len 0 l.c)

@@ -28,5 +28,7 @@ returns-clause-had c =
     let b = c.args.self.now in
     let width = c.loop-width.width in
     let more = first_in-more (chunks_of b) b.shape.stages width in
-    let below : c.args.n - c.first-2.result < stripes_of b width * parities_of b width = omega (arith, c.first.ensures.value, c.first-2.ensures.value, c.loop-width-test.false) in
-    rw c.parities-parities.ensures.value (parity-parts (stripes_of b width) (parities_of b width) (c.args.n - c.first-2.result) below)
+    let below : c.args.n - c.first-2.result < stripes_of b width * parities_of b width =
+    omega (arith, c.first.ensures.value, c.first-2.ensures.value, c.loop-width-test.false) in
+    rw c.parities-parities.ensures.value
+    (parity-parts (stripes_of b width) (parities_of b width) (c.args.n - c.first-2.result) below)

@@ -18,7 +18,9 @@ loop-piece-preserved c =
     let a = c.args in
     let out = c.loop-piece.out.items in
     rw c.in_ok-extend_from_slice.ensures.items
-    (join-more a.most c.loop-piece.piece-index a.out.now.items out c.bytes-bytes.result.now a.pieces.now c.piece-item.result c.min.result (omega arith) (c.bytes-bytes.ensures.same ∙ c.piece-item.is) c.loop-piece.invariant (omega arith))
+    (join-more a.most c.loop-piece.piece-index a.out.now.items out c.bytes-bytes.result.now a.pieces.now
+    c.piece-item.result c.min.result (omega arith) (c.bytes-bytes.ensures.same
+    ∙ c.piece-item.is) c.loop-piece.invariant (omega arith))
 
 pub returns-clause-front : goal.returns-clause-front
 returns-clause-front c =
@@ -29,6 +31,8 @@ returns-clause-front c =
 pub returns-clause-of_file : goal.returns-clause-of_file
 returns-clause-of_file c = λ size file width j pos long before is.
     let a = c.args in
-    let all : take c.loop-piece.piece-index a.pieces.now ≡ a.pieces.now = take_all c.loop-piece.piece-index a.pieces.now (omega arith) in
-    c.loop-piece.invariant ∙ ap (λ ps. take a.most (a.out.now.items ++ concat ps)) (all ∙ is) ∙ ap (λ n. take n (a.out.now.items ++ concat (stripe size file width j))) (sym long)
+    let all : take c.loop-piece.piece-index a.pieces.now ≡ a.pieces.now =
+    take_all c.loop-piece.piece-index a.pieces.now (omega arith) in
+    c.loop-piece.invariant ∙ ap (λ ps. take a.most (a.out.now.items ++ concat ps)) (all ∙ is)
+    ∙ ap (λ n. take n (a.out.now.items ++ concat (stripe size file width j))) (sym long)
     ∙ stripe-joined size file width j a.out.now.items pos before

@@ -4,4 +4,8 @@ use Rattle.mf_stripe.proofs.cutting.stripe_pieces.Goals as goal
 
 pub returns-clause-of_file : goal.returns-clause-of_file
 returns-clause-of_file c = λ size file is.
-    rw is (stripe-slice size file c.args.width c.args.j c.min-end.result (omega (arith, ap length is, length-chunks size file)) (omega (arith, c.requires)))
+    rw is (stripe-slice size file c.args.width c.args.j c.min-end.result (omega (
+      arith,
+      ap length is,
+      length-chunks size file,
+    )) (omega (arith, c.requires)))

@@ -1,5 +1,6 @@
 -- The row of each deed, the view of a move's own actor after it, what it left of the note, and what it told.
-use Rattle.std.proofs.Common.{◌≡◌, ◌≢◌, ◌⊎◌, ℕ, zero, suc, ◌+◌, ◌/◌, Bool, true, false, List, [], ◌∷◌, ◌++◌, length, set, sym, refl, ap, ◌∙◌, subst, inl, inr, ⊎_elim, arith, Option, Some, None, length-set}
+use Rattle.std.proofs.Common.{◌≡◌, ◌≢◌, ◌⊎◌, ℕ, zero, suc, ◌+◌, ◌/◌, Bool, true, false, List, [], ◌∷◌, ◌++◌, length}
+use Rattle.std.proofs.Common.{set, sym, refl, ap, ◌∙◌, subst, inl, inr, ⊎_elim, arith, Option, Some, None, length-set}
 use mathlib.Core.Logic.{dite}
 use mathlib.Core.Option.{some, some-ne-none}
 use native.Mathlib.Decide.{ℕ_discrete}
@@ -17,7 +18,8 @@ use Rattle.mf_machine.specs.declared.view.Seen.{Seen}
 use Rattle.mf_machine.specs.declared.view.Step.{Step}
 use Rattle.mf_machine.specs.declared.view.View.{View}
 use Rattle.mf_machine.specs.Actors.{Active, live}
-use Rattle.mf_machine.specs.Answers.{Answer, said, pin_said, close_said, begin_said, see_said, take_said, lose_said, drop_said, drop_again_said}
+use Rattle.mf_machine.specs.Answers.{Answer, said, pin_said, close_said, begin_said, see_said, take_said, lose_said}
+use Rattle.mf_machine.specs.Answers.{drop_said, drop_again_said}
 use Rattle.mf_machine.specs.File.{File, name_word}
 use Rattle.mf_machine.specs.Counts.{beyond}
 use Rattle.mf_machine.specs.Kept.{Number}
@@ -26,7 +28,8 @@ use Rattle.mf_machine.specs.Moves.{Deed, MayDo, done}
 use Rattle.mf_machine.specs.Moves as move
 use Rattle.mf_machine.specs.Steps.{Take, Drop}
 use Rattle.mf_machine.specs.Steps as row
-use Rattle.mf_machine.specs.Worlds.{World, Row, Turn, stays, comes_out, goes_back, word_of, actor, Fits, read, noted, meets, acted, homes_after, fresh, nothing_seen, spent_view}
+use Rattle.mf_machine.specs.Worlds.{World, Row, Turn, stays, comes_out, goes_back, word_of, actor, Fits, read, noted}
+use Rattle.mf_machine.specs.Worlds.{meets, acted, homes_after, fresh, nothing_seen, spent_view}
 use Rattle.mf_machine.proofs.Lists.{at_read, at_set, at_snoc}
 use Rattle.mf_machine.proofs.Lists.{stays as still}
 use Rattle.mf_machine.proofs.Words.{set_in}
@@ -61,7 +64,8 @@ deep_after (comes_out n) w id = length-set w.homes n Rattle.mf_machine.specs.Fil
 deep_after (goes_back n) w id = length-set w.homes n (w.hands id)
 
 pub fits_after : (f : File) (r : Row) (x : ℕ) (w : World) (id : ℕ) → Fits f w → Fits f (acted r x w id)
-fits_after f r x w id fits = record { wide = length-set w.words r.word (r.becomes x) ∙ fits.wide; deep = deep_after (r.slot x) w id ∙ fits.deep }
+fits_after f r x w id fits = record
+    { wide = length-set w.words r.word (r.becomes x) ∙ fits.wide; deep = deep_after (r.slot x) w id ∙ fits.deep }
 
 pub fits_on : (f : File) (w : World) (id : ℕ) (d : Deed) → Fits f w → Fits f (done f w id d)
 fits_on f w id (move.exchange h) g = record { wide = g.wide; deep = g.deep }
@@ -170,14 +174,18 @@ tells f w id move.begin = (begin_left (row.begin_answer (word_of w 1)) (actor w 
 tells f w id (move.see n) = (see_left (row.see_answer (word_of w (name_word f n))) n (actor w id)).1
 tells f w id (move.take n) = (take_left (row.take_answer (word_of w (name_word f n))) n (actor w id)).1
 tells f w id (move.lose n l) = (lose_left (row.lose_answer (word_of w (name_word f n))) n l (actor w id)).1
-tells f w id (move.drop n) = (drop_left (row.drop_answer (word_of w (name_word f n))) n (word_of w (name_word f n)) (actor w id)).1
-tells f w id (move.drop_again n) = (again_left (row.drop_again_answer (actor w id).inside.tried (word_of w (name_word f n))) n (actor w id)).1
+tells f w id (move.drop n) = (drop_left (row.drop_answer (word_of w (name_word f n))) n (word_of w (name_word f n))
+    (actor w id)).1
+tells f w id (move.drop_again n) = (again_left (row.drop_again_answer (actor w id).inside.tried
+    (word_of w (name_word f n))) n (actor w id)).1
 tells f w id d = refl
 
 -- a number that is told isn't lower than one seen before
-pub rises : (f : File) (w : World) (id : ℕ) (d : Deed) → MayDo f w id d → Number f (read f w) → Rises (tale f w id d) (known (actor w id))
+pub rises : (f : File) (w : World) (id : ℕ) (d : Deed) → MayDo f w id d → Number f (read f w) → Rises (tale f w id d)
+    (known (actor w id))
 rises f w id move.look may n = n.seen id (actor w id) (here w id may.0) (actor w id).seen.number (inl refl)
-rises f w id (move.publish next) may n = let low = n.seen id (actor w id) (here w id may.0) (actor w id).seen.number (inl refl) in
+rises f w id (move.publish next) may n = let low = n.seen id (actor w id) (here w id may.0) (actor w id).seen.number
+    (inl refl) in
     let now = n.holder id (actor w id) (here w id may.0) may.2 may.3 in let m = may.4.1 in
     ⊎_elim (λ t. let e = t.0 in omega arith) (λ t. let e = t.0 in let b = t.2 in omega arith) may.4.2
 rises f w id (move.pin slot g) may n = (pin_left (row.pin_answer (word_of w (g + 2))) slot g (actor w id)).2
@@ -186,8 +194,10 @@ rises f w id move.begin may n = (begin_left (row.begin_answer (word_of w 1)) (ac
 rises f w id (move.see k) may n = (see_left (row.see_answer (word_of w (name_word f k))) k (actor w id)).2
 rises f w id (move.take k) may n = (take_left (row.take_answer (word_of w (name_word f k))) k (actor w id)).2
 rises f w id (move.lose k l) may n = (lose_left (row.lose_answer (word_of w (name_word f k))) k l (actor w id)).2
-rises f w id (move.drop k) may n = (drop_left (row.drop_answer (word_of w (name_word f k))) k (word_of w (name_word f k)) (actor w id)).2
-rises f w id (move.drop_again k) may n = (again_left (row.drop_again_answer (actor w id).inside.tried (word_of w (name_word f k))) k (actor w id)).2
+rises f w id (move.drop k) may n = (drop_left (row.drop_answer (word_of w (name_word f k))) k
+    (word_of w (name_word f k)) (actor w id)).2
+rises f w id (move.drop_again k) may n = (again_left (row.drop_again_answer (actor w id).inside.tried
+    (word_of w (name_word f k))) k (actor w id)).2
 rises f w id d may n = tt
 
 -- what is noted
@@ -197,19 +207,26 @@ met_it w i v u e = (ap (λ (s : Step). s.count + 1) e, refl, refl)
 pub notes : (f : File) (w : World) (id : ℕ) (d : Deed) → Notes f w d (actor w id).step (own f w id d).step
 notes f w id (move.pin slot g) = let v : View = actor w id in let b : Bool = row.pin_answer (word_of w (g + 2)) in
     met_it w (g + 2) v (row.pin_view b slot g v) (pin_left b slot g v).0
-notes f w id (move.unpin slot g) = let v : View = actor w id in met_it w (g + 2) v (row.unpinned slot v) (unpin_left slot v).0
+notes f w id (move.unpin slot g) = let v : View = actor w id in
+    met_it w (g + 2) v (row.unpinned slot v) (unpin_left slot v).0
 notes f w id (move.close g) = let v : View = actor w id in let b : Closed = row.close_answer (word_of w (g + 2)) in
     met_it w (g + 2) v (row.close_view b g v) (close_left b g v).0
-notes f w id move.begin = let v : View = actor w id in let b : Bool = row.begin_answer (word_of w 1) in met_it w 1 v (row.begin_view b v) (begin_left b v).0
-notes f w id (move.see n) = let v : View = actor w id in let i : ℕ = name_word f n in let b : Told = row.see_answer (word_of w i) in
+notes f w id move.begin = let v : View = actor w id in let b : Bool = row.begin_answer (word_of w 1) in
+    met_it w 1 v (row.begin_view b v) (begin_left b v).0
+notes f w id (move.see n) = let v : View = actor w id in let i : ℕ = name_word f n in
+    let b : Told = row.see_answer (word_of w i) in
     met_it w i v (row.see_view b n v) (see_left b n v).0
-notes f w id (move.take n) = let v : View = actor w id in let i : ℕ = name_word f n in let b : Take = row.take_answer (word_of w i) in
+notes f w id (move.take n) = let v : View = actor w id in let i : ℕ = name_word f n in
+    let b : Take = row.take_answer (word_of w i) in
     met_it w i v (row.take_view b n v) (take_left b n v).0
-notes f w id (move.lose n l) = let v : View = actor w id in let i : ℕ = name_word f n in let b : LoseStep = row.lose_answer (word_of w i) in
+notes f w id (move.lose n l) = let v : View = actor w id in let i : ℕ = name_word f n in
+    let b : LoseStep = row.lose_answer (word_of w i) in
     met_it w i v (row.lose_view b n l v) (lose_left b n l v).0
-notes f w id (move.drop n) = let v : View = actor w id in let i : ℕ = name_word f n in let b : Drop = row.drop_answer (word_of w i) in
+notes f w id (move.drop n) = let v : View = actor w id in let i : ℕ = name_word f n in
+    let b : Drop = row.drop_answer (word_of w i) in
     met_it w i v (row.drop_view b n (word_of w i) v) (drop_left b n (word_of w i) v).0
-notes f w id (move.drop_again n) = let v : View = actor w id in let i : ℕ = name_word f n in let b : Bool = row.drop_again_answer v.inside.tried (word_of w i) in
+notes f w id (move.drop_again n) = let v : View = actor w id in let i : ℕ = name_word f n in
+    let b : Bool = row.drop_again_answer v.inside.tried (word_of w i) in
     met_it w i v (row.drop_again_view b n v) (again_left b n v).0
 notes f w id move.look = (refl, refl, refl)
 notes f w id move.end = (refl, refl, refl)
@@ -219,8 +236,8 @@ notes f w id (move.birth n) = (refl, refl, refl)
 notes f w id (move.retake n) = (refl, refl, refl)
 notes f w id d = refl
 
--- what a move does to the list of actors: its own actor's view changes alone; or a new actor stands behind the others; or
--- another one is taken in
+-- what a move does to the list of actors: its own actor's view changes alone; or a new actor stands behind the others;
+-- or another one is taken in
 abbrev pub Changes : File → World → ℕ → Deed → List View
 Changes f w id d = set w.views id (own f w id d)
 
@@ -228,12 +245,14 @@ abbrev pub Splits : File → World → ℕ → Deed → Type 0
 Splits f w id d = (a : ℕ) × (b : List ℕ) × (c : Seen) × ((done f w id d).views ≡ Changes f w id d ++ fresh a b c ∷ [])
 
 abbrev pub Joins : File → World → ℕ → Deed → Type 0
-Joins f w id d = (o : ℕ) × (d ≡ move.join o) × (o ≢ id) × Active (actor w o) × ((done f w id d).views ≡ set (Changes f w id d) o spent_view)
+Joins f w id d = (o : ℕ) × (d ≡ move.join o) × (o ≢ id) × Active (actor w o) × ((done f w id d).views ≡ set
+    (Changes f w id d) o spent_view)
 
 pub shape : (f : File) (w : World) (id : ℕ) (d : Deed) → MayDo f w id d
     → ((done f w id d).views ≡ Changes f w id d) ⊎ (Splits f w id d ⊎ Joins f w id d)
 shape f w id (move.exchange h) may = inl (sym (set-get_or w.views id spent_view))
-shape f w id move.split may = let v : View = actor w id in inr (inl (v.share / 2, beyond (row.kept_share v) v.strays, v.seen, refl))
+shape f w id move.split may = let v : View = actor w id in
+    inr (inl (v.share / 2, beyond (row.kept_share v) v.strays, v.seen, refl))
 shape f w id (move.join other) may = inr (inr (other, refl, may.0, may.1.1, refl))
 shape f w id d may = inl refl
 
@@ -252,7 +271,8 @@ module _ (f : File) (w : World) (id : ℕ) (d : Deed) (may : MayDo f w id d) whe
 
   pub own_at : get_elem? (done f w id d).views id ≡ some Own
   own_at = ⊎_elim (λ e. subst (λ (l : List View). get_elem? l id ≡ some Own) (sym e) placed) (λ t. ⊎_elim
-      (λ q. subst (λ (l : List View). get_elem? l id ≡ some Own) (sym q.3) (longer (Changes f w id d) (fresh q.0 q.1 q.2 ∷ []) id Own placed))
+      (λ q. subst (λ (l : List View). get_elem? l id ≡ some Own) (sym q.3) (longer (Changes f w id d)
+      (fresh q.0 q.1 q.2 ∷ []) id Own placed))
       (λ q. subst (λ (l : List View). get_elem? l id ≡ some Own) (sym q.4)
       (still (Changes f w id d) q.0 id spent_view Own (λ e. q.2 (sym e)) placed)) t) (shape f w id d may)
 
@@ -260,32 +280,39 @@ module _ (f : File) (w : World) (id : ℕ) (d : Deed) (may : MayDo f w id d) whe
   abbrev pub TakenIn : ℕ → Type 0
   TakenIn j = (d ≡ move.join j) × Active (actor w j) × (get_elem? (done f w id d).views j ≡ some spent_view)
 
-  pub other_at : (j : ℕ) (v : View) → j ≢ id → get_elem? w.views j ≡ some v → (get_elem? (done f w id d).views j ≡ some v) ⊎ TakenIn j
+  pub other_at : (j : ℕ) (v : View) → j ≢ id → get_elem? w.views j ≡ some v
+      → (get_elem? (done f w id d).views j ≡ some v) ⊎ TakenIn j
   other_at j v ne at = let there : get_elem? (Changes f w id d) j ≡ some v = still w.views id j Own v ne at in ⊎_elim
       (λ e. inl (subst (λ (l : List View). get_elem? l j ≡ some v) (sym e) there)) (λ t. ⊎_elim
-      (λ q. inl (subst (λ (l : List View). get_elem? l j ≡ some v) (sym q.3) (longer (Changes f w id d) (fresh q.0 q.1 q.2 ∷ []) j v there)))
+      (λ q. inl (subst (λ (l : List View). get_elem? l j ≡ some v) (sym q.3) (longer (Changes f w id d)
+      (fresh q.0 q.1 q.2 ∷ []) j v there)))
       (λ q. dite (ℕ_discrete j q.0)
       (λ e. inr (subst TakenIn (sym e) (
         q.1,
         q.3,
         subst (λ (l : List View). get_elem? l q.0 ≡ some spent_view) (sym q.4)
-            (set_in (Changes f w id d) q.0 (actor w q.0) spent_view (still w.views id q.0 Own (actor w q.0) q.2 (here w q.0 q.3))),
+            (set_in (Changes f w id d) q.0 (actor w q.0) spent_view (still w.views id q.0 Own (actor w q.0) q.2
+            (here w q.0 q.3))),
       )))
-      (λ apart. inl (subst (λ (l : List View). get_elem? l j ≡ some v) (sym q.4) (still (Changes f w id d) q.0 j spent_view v apart there)))) t)
+      (λ apart. inl (subst (λ (l : List View). get_elem? l j ≡ some v) (sym q.4)
+      (still (Changes f w id d) q.0 j spent_view v apart there)))) t)
       (shape f w id d may)
 
   -- who stands in the list after a move: its own actor, one that stood there, or one that has met nothing
   abbrev pub Blank : View → Type 0
   Blank z = (a : ℕ) × (b : List ℕ) × (c : Seen) × (fresh a b c ≡ z)
 
-  pub from_at : (j : ℕ) (z : View) → get_elem? (done f w id d).views j ≡ some z → (Own ≡ z) ⊎ ((get_elem? w.views j ≡ some z) ⊎ Blank z)
+  pub from_at : (j : ℕ) (z : View) → get_elem? (done f w id d).views j ≡ some z → (Own ≡ z) ⊎
+      ((get_elem? w.views j ≡ some z) ⊎ Blank z)
   from_at j z at = ⊎_elim (λ e. old j (subst (λ (l : List View). get_elem? l j ≡ some z) e at)) (λ t. ⊎_elim
-      (λ q. ⊎_elim (λ a. old j a) (λ a. inr (inr (q.0, q.1, q.2, a))) (at_snoc (Changes f w id d) (fresh q.0 q.1 q.2) z j
+      (λ q. ⊎_elim (λ a. old j a) (λ a. inr (inr (q.0, q.1, q.2, a))) (at_snoc (Changes f w id d)
+      (fresh q.0 q.1 q.2) z j
       (subst (λ (l : List View). get_elem? l j ≡ some z) q.3 at)))
       (λ q. ⊎_elim (λ (a : (j ≡ q.0) × (spent_view ≡ z)). inr (inr (0, [], nothing_seen, a.1)))
-      (λ (a : (j ≢ q.0) × (get_elem? (Changes f w id d) j ≡ some z)). old j a.1) (at_set (Changes f w id d) q.0 j spent_view z
+      (λ (a : (j ≢ q.0) × (get_elem? (Changes f w id d) j ≡ some z)). old j a.1)
+      (at_set (Changes f w id d) q.0 j spent_view z
       (subst (λ (l : List View). get_elem? l j ≡ some z) q.4 at))) t) (shape f w id d may)
     where
       old : (j : ℕ) → get_elem? (Changes f w id d) j ≡ some z → (Own ≡ z) ⊎ ((get_elem? w.views j ≡ some z) ⊎ Blank z)
-      old j at = ⊎_elim (λ (t : (j ≡ id) × (Own ≡ z)). inl t.1) (λ (t : (j ≢ id) × (get_elem? w.views j ≡ some z)). inr (inl t.1))
-          (at_set w.views id j Own z at)
+      old j at = ⊎_elim (λ (t : (j ≡ id) × (Own ≡ z)). inl t.1) (λ (t : (j ≢ id) × (get_elem? w.views j ≡ some z)). inr
+          (inl t.1)) (at_set w.views id j Own z at)

@@ -1,5 +1,6 @@
 -- What a move enters into its actor's Met, Seen and Made, by its answer.
-use Rattle.std.proofs.Common.{◌≡◌, ◌≢◌, ◌⊎◌, ℕ, ◌+◌, ◌<◌, ◌≤◌, cond, List, [], ◌∷◌, sym, refl, ap, ◌∙◌, subst, ⊎_elim, inl, inr, arith, eq-eqb, ne_eqb, Option, Some, None}
+use Rattle.std.proofs.Common.{◌≡◌, ◌≢◌, ◌⊎◌, ℕ, ◌+◌, ◌<◌, ◌≤◌, cond, List, [], ◌∷◌, sym, refl, ap, ◌∙◌, subst, ⊎_elim}
+use Rattle.std.proofs.Common.{inl, inr, arith, eq-eqb, ne_eqb, Option, Some, None}
 use Rattle.std.proofs.lemmas.Option.{none-some, same_Some}
 use mathlib.Core.Logic.{dite}
 use mathlib.Core.Option.{some}
@@ -10,7 +11,9 @@ use Rattle.mf_machine.specs.declared.view.Made.{Made}
 use Rattle.mf_machine.specs.declared.view.Met.{Met}
 use Rattle.mf_machine.specs.declared.view.Seen.{Seen}
 use Rattle.mf_machine.specs.declared.view.View.{View}
-use Rattle.mf_machine.specs.Answers.{Answer, number, begun, refused, opened, missed, closed, already, pinned, unborn, here, lost, put, restored, made_lost, dropped, not_lost, not_dropped, often, makes, IsChange, Shows}
+use Rattle.mf_machine.specs.Answers.{Answer, number, begun, refused, opened, missed, closed, already, pinned, unborn}
+use Rattle.mf_machine.specs.Answers.{here, lost, put, restored, made_lost, dropped, not_lost, not_dropped, often, makes}
+use Rattle.mf_machine.specs.Answers.{IsChange, Shows}
 use Rattle.mf_machine.specs.Counts.{bit, times, lines}
 use Rattle.mf_machine.specs.Laws.{GoesOn, met_sum, SeenHas, Enters}
 use Rattle.mf_machine.proofs.Lists.{bit_is, bit_not, times_cons, times_here, times_else, lines_here, lines_cons}
@@ -51,24 +54,31 @@ abbrev pub make : Answer → Made → Made
 make (closed g) m = record m { closings = g ∷ m.closings }
 make (put n) m = record m { changes = record m.changes { put = n ∷ m.changes.put } }
 make (restored n) m = record m { changes = record m.changes { restored = n ∷ m.changes.restored } }
-make (made_lost n l) m = record m { changes = record m.changes { lost = (record { name = n; line = l }) ∷ m.changes.lost } }
+make (made_lost n l) m = record m
+    { changes = record m.changes { lost = (record { name = n; line = l }) ∷ m.changes.lost } }
 make (dropped n) m = record m { changes = record m.changes { dropped = n ∷ m.changes.dropped } }
 make a m = m
 
 -- what is in the Met with one more answer is that answer, or was there
-lines_else : (n l m j : ℕ) (xs : List Loss) → (n ≡ m → l ≡ j → ⊥) → lines m j ((record { name = n; line = l }) ∷ xs) ≡ lines m j xs
+lines_else : (n l m j : ℕ) (xs : List Loss) → (n ≡ m → l ≡ j → ⊥) → lines m j ((record { name = n; line = l }) ∷ xs) ≡
+    lines m j xs
 lines_else n l m j xs ne = dite (ℕ_discrete n m)
     (λ e. (λ i. cond (eq-eqb n m e i) (bit l j) 0 + lines m j xs) ∙ (let z = bit_not l j (ne e) in omega arith))
-    (λ d. (λ i. cond (ne_eqb n m d i) (bit l j) 0 + lines m j xs) ∙ (let z : ℕ = lines m j xs in let e : 0 + z ≡ z = omega arith in e))
+    (λ d. (λ i. cond (ne_eqb n m d i) (bit l j) 0 + lines m j xs) ∙ (let z : ℕ = lines m j xs in
+    let e : 0 + z ≡ z = omega arith in e))
 
-one_refusal : (g p o h q r : ℕ) → (g ≡ h → p ≡ q → o ≡ r → ⊥) → cond (Rattle.std.proofs.Common.eqb g h) (cond (Rattle.std.proofs.Common.eqb p q) (bit o r) 0) 0 ≡ 0
+one_refusal : (g p o h q r : ℕ) → (g ≡ h → p ≡ q → o ≡ r → ⊥) → cond (Rattle.std.proofs.Common.eqb g h)
+    (cond (Rattle.std.proofs.Common.eqb p q) (bit o r) 0) 0 ≡ 0
 one_refusal g p o h q r ne = dite (ℕ_discrete g h)
     (λ e. (λ i. cond (eq-eqb g h e i) (cond (Rattle.std.proofs.Common.eqb p q) (bit o r) 0) 0) ∙ dite (ℕ_discrete p q)
-    (λ d. (λ i. cond (eq-eqb p q d i) (bit o r) 0) ∙ bit_not o r (ne e d)) (λ d. λ i. cond (ne_eqb p q d i) (bit o r) 0))
+    (λ d. (λ i. cond (eq-eqb p q d i) (bit o r) 0) ∙ bit_not o r (ne e d)) (λ d. λ i. cond (ne_eqb p q d i)
+    (bit o r) 0))
     (λ d. λ i. cond (ne_eqb g h d i) (cond (Rattle.std.proofs.Common.eqb p q) (bit o r) 0) 0)
 
-same_refusal : (g p o : ℕ) → cond (Rattle.std.proofs.Common.eqb g g) (cond (Rattle.std.proofs.Common.eqb p p) (bit o o) 0) 0 ≡ 1
-same_refusal g p o = (λ i. cond (eq-eqb g g refl i) (cond (Rattle.std.proofs.Common.eqb p p) (bit o o) 0) 0) ∙ ((λ i. cond (eq-eqb p p refl i) (bit o o) 0) ∙ bit_is o o refl)
+same_refusal : (g p o : ℕ) → cond (Rattle.std.proofs.Common.eqb g g) (cond (Rattle.std.proofs.Common.eqb p p)
+    (bit o o) 0) 0 ≡ 1
+same_refusal g p o = (λ i. cond (eq-eqb g g refl i) (cond (Rattle.std.proofs.Common.eqb p p) (bit o o) 0) 0) ∙
+    ((λ i. cond (eq-eqb p p refl i) (bit o o) 0) ∙ bit_is o o refl)
 
 pub often_here : (a : Answer) (m : Met) → often a (enter a m) ≡ often a m + 1
 often_here (number n) m = let z = times_here n m.numbers in omega arith
@@ -97,13 +107,15 @@ often_else (opened n) (opened k) m ne = times_else k n m.opened (λ e. ne (ap op
 often_else (missed n) (missed k) m ne = times_else k n m.missed (λ e. ne (ap missed (sym e)))
 often_else (closed n) (closed k) m ne = times_else k n m.closed (λ e. ne (ap closed (sym e)))
 often_else (already n) (already k) m ne = times_else k n m.already (λ e. ne (ap already (sym e)))
-often_else (pinned g p o) (pinned h q r) m ne = let z = one_refusal g p o h q r (λ a b c. ne (λ i. pinned (a i) (b i) (c i))) in omega arith
+often_else (pinned g p o) (pinned h q r) m ne = let z = one_refusal g p o h q r
+    (λ a b c. ne (λ i. pinned (a i) (b i) (c i))) in omega arith
 often_else (unborn n) (unborn k) m ne = times_else k n m.unborn (λ e. ne (ap unborn (sym e)))
 often_else (here n) (here k) m ne = times_else k n m.here (λ e. ne (ap here (sym e)))
 often_else (lost n l) (lost k j) m ne = lines_else n l k j m.lost (λ a b. ne (λ i. lost (a i) (b i)))
 often_else (put n) (put k) m ne = times_else k n m.put (λ e. ne (ap put (sym e)))
 often_else (restored n) (restored k) m ne = times_else k n m.restored (λ e. ne (ap restored (sym e)))
-often_else (made_lost n l) (made_lost k j) m ne = lines_else n l k j m.made_lost (λ a b. ne (λ i. made_lost (a i) (b i)))
+often_else (made_lost n l) (made_lost k j) m ne = lines_else n l k j m.made_lost
+    (λ a b. ne (λ i. made_lost (a i) (b i)))
 often_else (dropped n) (dropped k) m ne = times_else k n m.dropped (λ e. ne (ap dropped (sym e)))
 often_else (not_lost n) (not_lost k) m ne = times_else k n m.not_lost (λ e. ne (ap not_lost (sym e)))
 often_else (not_dropped n) (not_dropped k) m ne = times_else k n m.not_dropped (λ e. ne (ap not_dropped (sym e)))
@@ -121,20 +133,28 @@ often_from (already n) (already k) m P is other h = times_cons k n m.already P (
 often_from (unborn n) (unborn k) m P is other h = times_cons k n m.unborn P (λ e. is (ap unborn (sym e))) other h
 often_from (here n) (here k) m P is other h = times_cons k n m.here P (λ e. is (ap here (sym e))) other h
 often_from (put n) (put k) m P is other h = times_cons k n m.put P (λ e. is (ap put (sym e))) other h
-often_from (restored n) (restored k) m P is other h = times_cons k n m.restored P (λ e. is (ap restored (sym e))) other h
+often_from (restored n) (restored k) m P is other h = times_cons k n m.restored P (λ e. is (ap restored (sym e))) other
+    h
 often_from (dropped n) (dropped k) m P is other h = times_cons k n m.dropped P (λ e. is (ap dropped (sym e))) other h
-often_from (not_lost n) (not_lost k) m P is other h = times_cons k n m.not_lost P (λ e. is (ap not_lost (sym e))) other h
-often_from (not_dropped n) (not_dropped k) m P is other h = times_cons k n m.not_dropped P (λ e. is (ap not_dropped (sym e))) other h
-often_from (lost n l) (lost k j) m P is other h = lines_cons k j (record { name = n; line = l }) m.lost P (λ a b. is (λ i. lost (sym a i) (sym b i))) other h
+often_from (not_lost n) (not_lost k) m P is other h = times_cons k n m.not_lost P (λ e. is (ap not_lost (sym e))) other
+    h
+often_from (not_dropped n) (not_dropped k) m P is other h = times_cons k n m.not_dropped P
+    (λ e. is (ap not_dropped (sym e))) other h
+often_from (lost n l) (lost k j) m P is other h = lines_cons k j (record { name = n; line = l }) m.lost P
+    (λ a b. is (λ i. lost (sym a i) (sym b i))) other h
 often_from (made_lost n l) (made_lost k j) m P is other h = lines_cons k j (record { name = n; line = l }) m.made_lost P
     (λ a b. is (λ i. made_lost (sym a i) (sym b i))) other h
-often_from (pinned g p o) (pinned k q r) m P is other h = dite (ℕ_discrete g k) (λ a. dite (ℕ_discrete p q) (λ b. dite (ℕ_discrete o r)
-    (λ c. is (λ i. pinned (a i) (b i) (c i))) (λ ne. other (let z = one_refusal g p o k q r (λ a b c. ne c) in omega arith)))
-    (λ ne. other (let z = one_refusal g p o k q r (λ a b c. ne b) in omega arith))) (λ ne. other (let z = one_refusal g p o k q r (λ a b c. ne a) in omega arith))
+often_from (pinned g p o) (pinned k q r) m P is other h = dite (ℕ_discrete g k) (λ a. dite (ℕ_discrete p q)
+    (λ b. dite (ℕ_discrete o r)
+    (λ c. is (λ i. pinned (a i) (b i) (c i))) (λ ne. other (let z = one_refusal g p o k q r (λ a b c. ne c) in
+    omega arith)))
+    (λ ne. other (let z = one_refusal g p o k q r (λ a b c. ne b) in omega arith)))
+    (λ ne. other (let z = one_refusal g p o k q r (λ a b c. ne a) in omega arith))
 often_from a b m P is other h = other h
 
 -- how often a change is made is how often it is answered
-pub made_as_often : (b a : Answer) (made : Made) (m : Met) → IsChange b → makes b (make a made) + often b m ≡ makes b made + often b (enter a m)
+pub made_as_often : (b a : Answer) (made : Made) (m : Met) → IsChange b → makes b (make a made) + often b m ≡ makes b
+    made + often b (enter a m)
 made_as_often (closed k) (closed g) made m is = omega arith
 made_as_often (closed k) a made m is = refl
 made_as_often (put k) (put n) made m is = omega arith
@@ -221,7 +241,12 @@ known v = record { own = v.own; seen = v.seen; made = v.made; gone = v.gone }
 abbrev pub tell : Tale → Known → Known
 tell silence q = q
 tell (reply a) q = record q { own = enter a q.own; seen = show a q.seen; made = make a q.made }
-tell (news n) q = record q { own = enter (number n) q.own; seen = show (number n) q.seen; made = record q.made { numbers = n ∷ q.made.numbers } }
+tell (news n) q = record q {
+  own = enter (number n) q.own;
+  seen = show (number n) q.seen;
+  made = record q.made
+      { numbers = n ∷ q.made.numbers };
+}
 
 pub gone_left : (t : Tale) (q : Known) → (tell t q).gone ≡ q.gone
 gone_left silence q = refl
@@ -242,7 +267,14 @@ abbrev pub Goes : (q r : Known) → Type 0
 Goes q r = GoesOn q.seen r.seen q.made r.made
 
 pub goes_same : (q : Known) → Goes q q
-goes_same q = record { number = omega arith; shut = λ g. omega arith; born = λ n. omega arith; dropped = λ n. omega arith; made = λ a. omega arith }
+goes_same q = record {
+  number = omega arith;
+  shut = λ g. omega arith;
+  born = λ n. omega arith;
+  dropped = λ n. omega
+      arith;
+  made = λ a. omega arith;
+}
 
 news_on : (a : Answer) (n : ℕ) (m : Made) → makes a m ≤ makes a (record m { numbers = n ∷ m.numbers })
 news_on (number k) n m = omega arith
@@ -257,7 +289,14 @@ goes_on (reply a) q h = record {
   dropped = dropped_on a q.seen;
   made = λ b. makes_on a b q.made;
 }
-goes_on (news n) q h = record { number = h; shut = λ g. omega arith; born = λ g. omega arith; dropped = λ g. omega arith; made = λ a. news_on a n q.made }
+goes_on (news n) q h = record {
+  number = h;
+  shut = λ g. omega arith;
+  born = λ g. omega arith;
+  dropped = λ g. omega
+      arith;
+  made = λ a. news_on a n q.made;
+}
 
 -- Seen has what a longer Met shows
 pub has_on : (s t : Seen) (m n : Made) (c : Met) → GoesOn s t m n → SeenHas s c → SeenHas t c
@@ -290,21 +329,29 @@ no_news a n m c is = (refl, refl)
 pub tells_on : (t : Tale) (q : Known) → Rises t q → Tells q → Tells (tell t q)
 tells_on silence q h r = r
 tells_on (reply a) q h r = let o = goes_on (reply a) q h in record {
-  own = has_more a (show a q.seen) q.own (has_on q.seen (show a q.seen) q.made (make a q.made) q.own o r.own) (shows_it a q.seen);
+  own = has_more a (show a q.seen) q.own (has_on q.seen (show a q.seen) q.made (make a q.made) q.own o r.own)
+      (shows_it a q.seen);
   gone = λ i m at. has_on q.seen (show a q.seen) q.made (make a q.made) m o (r.gone i m at);
-  published = λ n. let e = ap (times n) (numbers_same a q.made) in let b = numbers_more a q.own n in let c = r.published n in omega arith;
+  published = λ n. let e = ap (times n) (numbers_same a q.made) in let b = numbers_more a q.own n in
+      let c = r.published n in omega arith;
   changed = λ b is. let e = made_as_often b a q.made q.own is in let c = r.changed b is in omega arith;
 }
-tells_on (news n) q h r = let o = goes_on (news n) q h in let s : Seen = show (number n) q.seen in let m : Made = record q.made { numbers = n ∷ q.made.numbers } in record {
-  own = has_more (number n) s q.own (has_on q.seen s q.made m q.own o r.own) (shows_it (number n) q.seen);
-  gone = λ i c at. has_on q.seen s q.made m c o (r.gone i c at);
-  published = λ k. let c = r.published k in omega arith;
-  changed = λ b is. let e = no_news b n q.made q.own is in let e₀ = e.0 in let e₁ = e.1 in let c = r.changed b is in omega arith;
-}
+tells_on (news n) q h r = let o = goes_on (news n) q h in let s : Seen = show (number n) q.seen in
+    let m : Made = record q.made { numbers = n ∷ q.made.numbers } in record {
+      own = has_more (number n) s q.own (has_on q.seen s q.made m q.own o r.own) (shows_it (number n) q.seen);
+      gone = λ i c at. has_on q.seen s q.made m c o (r.gone i c at);
+      published = λ k. let c = r.published k in omega arith;
+      changed = λ b is. let e = no_news b n q.made q.own is in let e₀ = e.0 in let e₁ = e.1 in let c = r.changed b is in
+          omega arith;
+    }
 
 -- the Met has one more of the answer, and of no other
 one_more : (a : Answer) (m : Met) → Enters (Some a) m (enter a m)
-one_more a m b = (λ e. subst (λ z. often z (enter a m) ≡ often z m + 1) (same_Some a b e) (often_here a m), λ ne. often_else a b m (λ e. ne (ap Some e)))
+one_more a m b = (
+  λ e. subst (λ z. often z (enter a m) ≡ often z m + 1) (same_Some a b e)
+      (often_here a m),
+  λ ne. often_else a b m (λ e. ne (ap Some e)),
+)
 
 pub enters_by : (t : Tale) (q : Known) → Enters (answer_of t) q.own (tell t q).own
 enters_by silence q b = (λ e. absurd (none-some b e), λ ne. refl)

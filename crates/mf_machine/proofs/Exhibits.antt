@@ -1,5 +1,6 @@
 -- A run in which every kind of step occurs, and a state that breaks each rule.
-use Rattle.std.proofs.Common.{◌≡◌, ℕ, zero, suc, ◌+◌, ◌*◌, ◌<◌, eqb, true, false, cond, List, [], ◌∷◌, ◌++◌, get_or, take, drop, subst, refl, inl, inr, ⊎_elim, arith}
+use Rattle.std.proofs.Common.{◌≡◌, ℕ, zero, suc, ◌+◌, ◌*◌, ◌<◌, eqb, true, false, cond, List, [], ◌∷◌, ◌++◌, get_or}
+use Rattle.std.proofs.Common.{take, drop, subst, refl, inl, inr, ⊎_elim, arith}
 use Rattle.mf_machine.specs.declared.answer.Slot.TheVariants.{Hold, Work}
 use Rattle.mf_machine.specs.declared.view.View.{View}
 use Rattle.mf_machine.specs.Answers as answer
@@ -17,13 +18,15 @@ use Rattle.mf_machine.specs.Moves.{by, Deed, after, Move, Runs, run}
 use Rattle.mf_machine.specs.Rest.{Rest}
 use Rattle.mf_machine.specs.Worlds.{World, actor, Opens, first_view, fresh, nothing_seen, nothing_built}
 use Rattle.mf_machine.specs.Worlds.{nothing_met}
-use Rattle.mf_machine.specs.Exhibits.{Occurs, Exhibits, SomeRun, Breaks, EachBreaks, AccountedBreaks, Uncaused, CausedBreaks}
+use Rattle.mf_machine.specs.Exhibits.{Occurs, Exhibits, SomeRun, Breaks, EachBreaks, AccountedBreaks, Uncaused}
+use Rattle.mf_machine.specs.Exhibits.{CausedBreaks}
 use Rattle.mf_machine.specs.File.Home.{away, empty, keeps}
 use Rattle.mf_machine.specs.Kept as kept
 use Rattle.mf_machine.specs.Moves as move
 use Rattle.mf_machine.proofs.Guards.{runs_if, false_true}
 
--- two generations and four names: name 0 is held by both, names 1 and 3 by generation 0, name 2 by generation 1. Line 7 takes the servers of names 0, 1 and 3
+-- two generations and four names: name 0 is held by both, names 1 and 3 by generation 0, name 2 by generation 1. Line 7
+-- takes the servers of names 0, 1 and 3
 abbrev file : File
 file = record {
   stages = 2;
@@ -31,7 +34,8 @@ file = record {
   holds = λ g n. cond (eqb n 0) true (cond (eqb n 3) (eqb g 0) (eqb (g + 1) n));
   server = λ n. n;
   cell = λ n. n ∷ [];
-  losses = (record { line = 7; server = 0 }) ∷ (record { line = 7; server = 1 }) ∷ (record { line = 7; server = 3 }) ∷ [];
+  losses = (record { line = 7; server = 0 }) ∷ (record { line = 7; server = 1 }) ∷ (record { line = 7; server = 3 }) ∷
+      [];
 }
 
 abbrev start : Opening
@@ -87,23 +91,37 @@ opened = record {
     homes_empty (suc (suc (suc zero))) l = refl
     homes_empty (suc (suc (suc (suc n)))) l = absurd (omega arith)
 
--- the first actor builds both generations, and reclaims the first one; the second one helps, loses chunks, and removes the file
+-- the first actor builds both generations, and reclaims the first one; the second one helps, loses chunks, and removes
+-- the file
 abbrev moves : List Move
-moves = by 0 move.split ∷ by 1 move.begin ∷ by 0 move.begin ∷ by 1 move.end ∷ by 0 move.begin ∷ by 0 move.look ∷ by 0 (move.see 0) ∷
-    by 0 (move.see 1) ∷ by 0 (move.see 3) ∷ by 0 (move.birth 0) ∷ by 1 move.look ∷ by 0 (move.exchange (keeps (0 ∷ []))) ∷ by 0 (move.born 0) ∷
+moves = by 0 move.split ∷ by 1 move.begin ∷ by 0 move.begin ∷ by 1 move.end ∷ by 0 move.begin ∷ by 0 move.look ∷ by 0
+    (move.see 0) ∷
+    by 0 (move.see 1) ∷ by 0 (move.see 3) ∷ by 0 (move.birth 0) ∷ by 1 move.look ∷ by 0 (move.exchange (keeps (0 ∷ [])))
+    ∷ by 0 (move.born 0) ∷
     by 0 (move.birth 1) ∷ by 0 (move.exchange (keeps (1 ∷ []))) ∷ by 0 (move.born 1) ∷ by 0 (move.birth 3) ∷
-    by 0 (move.exchange (keeps (3 ∷ []))) ∷ by 0 (move.born 3) ∷ by 1 (move.lose 0 7) ∷ by 0 (move.see 0) ∷ by 1 (move.exchange empty) ∷
-    by 1 (move.lost 0 7) ∷ by 0 (move.see 0) ∷ by 0 (move.retake 0) ∷ by 0 (move.exchange (keeps (0 ∷ []))) ∷ by 0 (move.restored 0) ∷
-    by 0 (move.publish 1) ∷ by 0 (move.pin Hold 0) ∷ by 0 (move.pin Work 0) ∷ by 1 move.look ∷ by 1 (move.pin Work 0) ∷ by 0 (move.take 0) ∷
-    by 1 (move.take 0) ∷ by 1 (move.lose 0 7) ∷ by 0 (move.give 0) ∷ by 0 (move.lose 0 7) ∷ by 0 (move.exchange empty) ∷ by 0 (move.lost 0 7) ∷
-    by 0 (move.lose 0 7) ∷ by 0 (move.take 0) ∷ by 0 (move.lose 1 7) ∷ by 0 (move.exchange empty) ∷ by 0 (move.lost 1 7) ∷ by 0 (move.see 1) ∷
-    by 0 (move.retake 1) ∷ by 0 (move.exchange (keeps (1 ∷ []))) ∷ by 0 (move.restored 1) ∷ by 0 (move.see 2) ∷ by 0 (move.birth 2) ∷
-    by 0 (move.exchange (keeps (2 ∷ []))) ∷ by 0 (move.born 2) ∷ by 0 (move.retake 0) ∷ by 0 (move.exchange (keeps (0 ∷ []))) ∷
-    by 0 (move.restored 0) ∷ by 0 (move.publish 2) ∷ by 0 (move.close 0) ∷ by 0 (move.unpin Hold 0) ∷ by 0 (move.unpin Work 0) ∷
-    by 1 (move.unpin Work 0) ∷ by 0 (move.close 0) ∷ by 0 (move.close 0) ∷ by 0 move.look ∷ by 0 move.end ∷ by 1 move.begin ∷ by 1 move.look ∷
+    by 0 (move.exchange (keeps (3 ∷ []))) ∷ by 0 (move.born 3) ∷ by 1 (move.lose 0 7) ∷ by 0 (move.see 0) ∷ by 1
+    (move.exchange empty) ∷
+    by 1 (move.lost 0 7) ∷ by 0 (move.see 0) ∷ by 0 (move.retake 0) ∷ by 0 (move.exchange (keeps (0 ∷ []))) ∷ by 0
+    (move.restored 0) ∷
+    by 0 (move.publish 1) ∷ by 0 (move.pin Hold 0) ∷ by 0 (move.pin Work 0) ∷ by 1 move.look ∷ by 1
+    (move.pin Work 0) ∷ by 0 (move.take 0) ∷
+    by 1 (move.take 0) ∷ by 1 (move.lose 0 7) ∷ by 0 (move.give 0) ∷ by 0 (move.lose 0 7) ∷ by 0
+    (move.exchange empty) ∷ by 0 (move.lost 0 7) ∷
+    by 0 (move.lose 0 7) ∷ by 0 (move.take 0) ∷ by 0 (move.lose 1 7) ∷ by 0 (move.exchange empty) ∷ by 0
+    (move.lost 1 7) ∷ by 0 (move.see 1) ∷
+    by 0 (move.retake 1) ∷ by 0 (move.exchange (keeps (1 ∷ []))) ∷ by 0 (move.restored 1) ∷ by 0 (move.see 2) ∷ by 0
+    (move.birth 2) ∷
+    by 0 (move.exchange (keeps (2 ∷ []))) ∷ by 0 (move.born 2) ∷ by 0 (move.retake 0) ∷ by 0
+    (move.exchange (keeps (0 ∷ []))) ∷
+    by 0 (move.restored 0) ∷ by 0 (move.publish 2) ∷ by 0 (move.close 0) ∷ by 0 (move.unpin Hold 0) ∷ by 0
+    (move.unpin Work 0) ∷
+    by 1 (move.unpin Work 0) ∷ by 0 (move.close 0) ∷ by 0 (move.close 0) ∷ by 0 move.look ∷ by 0 move.end ∷ by 1
+    move.begin ∷ by 1 move.look ∷
     by 1 (move.publish 3) ∷ by 1 (move.close 1) ∷ by 0 (move.pin Work 1) ∷ by 1 (move.close 0) ∷ by 1 (move.lose 3 7) ∷
-    by 1 (move.exchange empty) ∷ by 1 (move.lost 3 7) ∷ by 0 (move.drop 3) ∷ by 1 (move.drop 3) ∷ by 0 (move.drop_again 3) ∷
-    by 1 (move.drop_again 3) ∷ by 0 (move.drop 1) ∷ by 0 (move.exchange empty) ∷ by 0 (move.dropped 1) ∷ by 0 (move.drop 1) ∷ by 1 move.end ∷
+    by 1 (move.exchange empty) ∷ by 1 (move.lost 3 7) ∷ by 0 (move.drop 3) ∷ by 1 (move.drop 3) ∷ by 0
+    (move.drop_again 3) ∷
+    by 1 (move.drop_again 3) ∷ by 0 (move.drop 1) ∷ by 0 (move.exchange empty) ∷ by 0 (move.dropped 1) ∷ by 0
+    (move.drop 1) ∷ by 1 move.end ∷
     by 0 (move.join 1) ∷ []
 
 moves_run : Runs file first moves
@@ -126,7 +144,11 @@ exhibits = record {
   slots = occurs _ 32 (by 0 (move.take 0)) refl (0, 0, refl, refl);
   pin_true = occurs _ 28 (by 0 (move.pin Hold 0)) refl (0, refl, refl);
   pin_false = occurs _ 68 (by 0 (move.pin Work 1)) refl (1, refl, refl);
-  unpinned = (occurs _ 57 (by 0 (move.unpin Hold 0)) refl (0, refl), occurs _ 58 (by 0 (move.unpin Work 0)) refl (0, refl));
+  unpinned = (
+    occurs _ 57 (by 0 (move.unpin Hold 0)) refl (0, refl),
+    occurs _ 58 (by 0 (move.unpin Work 0)) refl
+        (0, refl),
+  );
   close_done = occurs _ 60 (by 0 (move.close 0)) refl (0, refl, refl);
   close_pins = occurs _ 56 (by 0 (move.close 0)) refl (0, 3, refl, refl, omega arith);
   close_already = occurs _ 61 (by 0 (move.close 0)) refl (0, refl, refl);
@@ -153,8 +175,20 @@ exhibits = record {
   drop_nothing = occurs _ 80 (by 0 (move.drop 1)) refl (1, refl, refl);
   again_true = occurs _ 75 (by 0 (move.drop_again 3)) refl (3, refl, refl);
   again_false = occurs _ 76 (by 1 (move.drop_again 3)) refl (3, refl, refl);
-  returns = (occurs _ 12 (by 0 (move.born 0)) refl (0, refl), occurs _ 26 (by 0 (move.restored 0)) refl (0, refl), occurs _ 79 (by 0 (move.dropped 1)) refl (1, refl), occurs _ 22 (by 1 (move.lost 0 7)) refl (0, 7, refl));
-  others = (occurs _ 11 (by 0 (move.exchange (keeps (0 ∷ [])))) refl (keeps (0 ∷ []), refl), occurs _ 0 (by 0 move.split) refl refl, occurs _ 82 (by 0 (move.join 1)) refl (1, refl));
+  returns = (
+    occurs _ 12 (by 0 (move.born 0)) refl (0, refl),
+    occurs _ 26 (by 0 (move.restored 0)) refl
+        (0, refl),
+    occurs _ 79 (by 0 (move.dropped 1)) refl (1, refl),
+    occurs _ 22 (by 1 (move.lost 0 7)) refl
+        (0, 7, refl),
+  );
+  others = (
+    occurs _ 11 (by 0 (move.exchange (keeps (0 ∷ [])))) refl (keeps (0 ∷ []), refl),
+    occurs _ 0
+        (by 0 move.split) refl refl,
+    occurs _ 82 (by 0 (move.join 1)) refl (1, refl),
+  );
   last = (
     final,
     (refl, refl, refl, refl, refl, refl),
@@ -174,7 +208,8 @@ some_run = (file, start, first, moves, rest, opened, moves_run, exhibits)
 
 -- states that break the rules
 abbrev state : ℕ → ℕ → (ℕ → ℕ) → (ℕ → ℕ) → List View → State
-state number right pins name views = record { number = number; right = right; pins = pins; name = name; home = λ _. empty; views = views }
+state number right pins name views =
+    record { number = number; right = right; pins = pins; name = name; home = λ _. empty; views = views }
 
 -- a number above q + 1; a closed generation that is still published; a published one with an Unborn name
 number_breaks : Breaks (λ f k s. Number f s)
@@ -191,7 +226,14 @@ pins_break = (
 )
 
 born_breaks : Breaks (λ f k s. Born f s)
-born_breaks = (file, start, state 1 0 (λ _. 0) (λ _. 0) [], rest, λ r. r.published 0 (omega arith) refl 0 (omega arith) refl refl)
+born_breaks = (
+  file,
+  start,
+  state 1 0 (λ _. 0) (λ _. 0) [],
+  rest,
+  λ r. r.published 0 (omega arith) refl 0
+      (omega arith) refl refl,
+)
 
 -- an actor that has seen closed what is open
 abbrev sees_shut : View
@@ -223,7 +265,14 @@ builder_breaks = (
 
 -- a Dropped name of an open generation; a Lost name without its lose line; a name that is Here with an empty slot
 dropped_breaks : Breaks (λ f k s. Dropped f s)
-dropped_breaks = (file, start, state 2 0 (λ _. 0) (λ _. 3) [], rest, λ r. let t = r.done 0 (omega arith) refl 0 (omega arith) refl in omega arith)
+dropped_breaks = (
+  file,
+  start,
+  state 2 0 (λ _. 0) (λ _. 3) [],
+  rest,
+  λ r. let t = r.done 0 (omega arith) refl 0
+      (omega arith) refl in omega arith,
+)
 
 losses_break : Breaks (λ f k s. Losses f s)
 losses_break = (file, start, state 2 0 (λ _. 0) (λ _. 4) [], rest, λ r. let t = r 1 0 (omega arith) refl in omega arith)
@@ -239,7 +288,16 @@ cells_break : Breaks (λ f k s. Cells f s)
 cells_break = (file, start, state 2 0 (λ _. 0) (λ _. 1) [], rest, λ r. empty_cell file 0 (r.here 0 (omega arith) refl))
 
 pub each_breaks : EachBreaks
-each_breaks = (number_breaks, pins_break, born_breaks, seen_breaks, builder_breaks, dropped_breaks, losses_break, cells_break)
+each_breaks = (
+  number_breaks,
+  pins_break,
+  born_breaks,
+  seen_breaks,
+  builder_breaks,
+  dropped_breaks,
+  losses_break,
+  cells_break,
+)
 
 -- an actor that made this; one that was answered this
 abbrev maker : Made → View
@@ -253,8 +311,22 @@ told a = record (fresh 1 [] nothing_seen) { own = enter a nothing_met }
 
 pub accounted_breaks : AccountedBreaks
 accounted_breaks = record {
-  number = (file, start, state 1 0 (λ _. 0) (λ _. 0) [], rest, λ r. ⊎_elim (λ t. let e = t.0 in omega arith) (λ h. omega arith) r);
-  greatest = (file, start, state 1 0 (λ _. 0) (λ _. 0) (maker (record nothing_made { numbers = 2 ∷ [] }) ∷ []), rest, λ r. let t = r 2 (omega arith) in omega arith);
+  number = (
+    file,
+    start,
+    state 1 0 (λ _. 0) (λ _. 0) [],
+    rest,
+    λ r. ⊎_elim (λ t. let e = t.0 in
+        omega arith) (λ h. omega arith) r,
+  );
+  greatest = (
+    file,
+    start,
+    state 1 0 (λ _. 0) (λ _. 0) (maker (record nothing_made { numbers = 2 ∷ [] }) ∷ []),
+    rest,
+    λ
+        r. let t = r 2 (omega arith) in omega arith,
+  );
   published_once = (
     file,
     start,
@@ -304,7 +376,14 @@ accounted_breaks = record {
     rest,
     λ r. ⊎_elim (λ e. omega arith) (λ h. omega arith) ((r 0 (omega arith)).0 refl),
   );
-  lost = (file, start, state 1 0 (λ _. 0) (λ _. 4) [], rest, λ r. let t = r 0 (omega arith) (λ e. omega arith) (inl (omega arith)) in omega arith);
+  lost = (
+    file,
+    start,
+    state 1 0 (λ _. 0) (λ _. 4) [],
+    rest,
+    λ r. let t = r 0 (omega arith) (λ e. omega arith)
+        (inl (omega arith)) in omega arith,
+  );
   kept = (
     file,
     start,
@@ -312,7 +391,14 @@ accounted_breaks = record {
     rest,
     λ r. let t = r 0 (omega arith) (λ e. omega arith) (omega arith) refl in omega arith,
   );
-  line = (file, start, state 1 0 (λ _. 0) (λ _. 11) [], rest, λ r. ⊎_elim (λ e. omega arith) (λ h. omega arith) (r 0 (omega arith) 7 refl));
+  line = (
+    file,
+    start,
+    state 1 0 (λ _. 0) (λ _. 11) [],
+    rest,
+    λ r. ⊎_elim (λ e. omega arith) (λ h. omega arith)
+        (r 0 (omega arith) 7 refl),
+  );
 }
 
 -- an opening in which each name is Here
@@ -332,7 +418,8 @@ stored_rests = record {
 }
 
 -- an actor alone was answered so, and nobody made anything
-uncaused : (k : Opening) → Rest file k → (a : Answer) → (Cause k (state 0 0 (λ _. 0) (λ _. 0) (told a ∷ [])) (enter a nothing_met) a → ⊥) → Uncaused a
+uncaused : (k : Opening) → Rest file k → (a : Answer) → (Cause k (state 0 0 (λ _. 0) (λ _. 0) (told a ∷ []))
+    (enter a nothing_met) a → ⊥) → Uncaused a
 uncaused k rests a never = (
   file,
   k,
@@ -352,17 +439,25 @@ caused_breaks = record {
   );
   told = (
     uncaused stored stored_rests (answer.unborn 0) (λ c. omega arith),
-    uncaused start rest (answer.here 0) (λ c. ⊎_elim (λ e. omega arith) (λ t. ⊎_elim (λ h. omega arith) (λ t. ⊎_elim (λ h. omega arith)
-        (λ t. ⊎_elim (λ h. omega arith) (λ h. omega arith) t) t) t) c),
+    uncaused start rest (answer.here 0) (λ c. ⊎_elim (λ e. omega arith) (λ t. ⊎_elim (λ h. omega arith)
+        (λ t. ⊎_elim (λ h. omega arith) (λ t. ⊎_elim (λ h. omega arith) (λ h. omega arith) t) t) t) c),
     uncaused start rest (answer.lost 0 7) (λ c. ⊎_elim (λ e. omega arith) (λ h. omega arith) c),
   );
   nothing = (
-    uncaused stored stored_rests (answer.not_lost 0) (λ c. ⊎_elim (λ e. omega arith) (λ t. ⊎_elim (λ h. omega arith) (λ t. ⊎_elim (λ h. omega arith)
-        (λ t. ⊎_elim (λ h. omega arith) (λ h. omega arith) t) t) t) c),
-    uncaused stored stored_rests (answer.not_dropped 0) (λ c. ⊎_elim (λ e. omega arith) (λ t. ⊎_elim (λ h. omega arith) (λ t. ⊎_elim (λ h. omega arith)
+    uncaused stored stored_rests (answer.not_lost 0) (λ c. ⊎_elim (λ e. omega arith) (λ t. ⊎_elim (λ h. omega arith)
+        (λ t. ⊎_elim (λ h. omega arith) (λ t. ⊎_elim (λ h. omega arith) (λ h. omega arith) t) t) t) c),
+    uncaused stored stored_rests (answer.not_dropped 0) (λ c. ⊎_elim (λ e. omega arith) (λ t. ⊎_elim (λ h. omega arith)
+        (λ t. ⊎_elim (λ h. omega arith)
         (λ t. ⊎_elim (λ h. omega arith) (λ t. ⊎_elim (λ h. omega arith) (λ h. omega arith) t) t) t) t) c),
   );
-  right = (file, start, state 0 1 (λ _. 0) (λ _. 0) (sees_unborn ∷ []), rest, λ r. let t = r 0 sees_unborn refl refl in omega arith);
+  right = (
+    file,
+    start,
+    state 0 1 (λ _. 0) (λ _. 0) (sees_unborn ∷ []),
+    rest,
+    λ r. let t = r 0 sees_unborn refl refl in
+        omega arith,
+  );
   pin = (
     file,
     start,

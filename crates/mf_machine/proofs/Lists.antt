@@ -1,5 +1,6 @@
 -- Lists read by `get_elem?`, and how often something stands in a list.
-use Rattle.std.proofs.Common.{◌≡◌, ◌≢◌, ◌⊎◌, ℕ, zero, suc, ◌+◌, ◌<◌, ◌≤◌, min, List, [], ◌∷◌, ◌++◌, get_or, set, sym, refl, ap, ◌∙◌, subst, ⊎_elim, inl, inr, arith, Bool, true, false, cond, eq-eqb, ne_eqb}
+use Rattle.std.proofs.Common.{◌≡◌, ◌≢◌, ◌⊎◌, ℕ, zero, suc, ◌+◌, ◌<◌, ◌≤◌, min, List, [], ◌∷◌, ◌++◌, get_or, set, sym}
+use Rattle.std.proofs.Common.{refl, ap, ◌∙◌, subst, ⊎_elim, inl, inr, arith, Bool, true, false, cond, eq-eqb, ne_eqb}
 use Rattle.std.proofs.lemmas.Bool.{lt-ltb, le-ltb}
 use mathlib.Core.Option.{some, some-injective, some-ne-none}
 use mathlib.Core.Logic.{dite}
@@ -9,13 +10,14 @@ use Rattle.mf_machine.specs.declared.view.Loss.{Loss}
 use Rattle.mf_machine.specs.Counts.{bit, truth, times, losses, lines, without, those, up_to, beyond}
 
 module _ {A : Type 0} where
-  pub at_set : (l : List A) (i j : ℕ) (a b : A) → get_elem? (set l i a) j ≡ some b → ((j ≡ i) × (a ≡ b)) ⊎ ((j ≢ i) × (get_elem? l j ≡ some b))
+  pub at_set : (l : List A) (i j : ℕ) (a b : A) → get_elem? (set l i a) j ≡ some b → ((j ≡ i) × (a ≡ b)) ⊎
+      ((j ≢ i) × (get_elem? l j ≡ some b))
   at_set [] i j a b e = absurd (some-ne-none b (sym e))
   at_set (x ∷ xs) zero zero a b e = inl (refl, some-injective a b e)
   at_set (x ∷ xs) zero (suc j) a b e = inr ((λ h. omega arith), e)
   at_set (x ∷ xs) (suc i) zero a b e = inr ((λ h. omega arith), e)
-  at_set (x ∷ xs) (suc i) (suc j) a b e = ⊎_elim (λ t. inl (ap suc t.0, t.1)) (λ t. let n = t.0 in inr ((λ h. n (omega arith)), t.1))
-      (at_set xs i j a b e)
+  at_set (x ∷ xs) (suc i) (suc j) a b e = ⊎_elim (λ t. inl (ap suc t.0, t.1)) (λ t. let n = t.0 in
+      inr ((λ h. n (omega arith)), t.1)) (at_set xs i j a b e)
 
   pub at_snoc : (l : List A) (a b : A) (j : ℕ) → get_elem? (l ++ a ∷ []) j ≡ some b → (get_elem? l j ≡ some b) ⊎ (a ≡ b)
   at_snoc [] a b zero e = inr (some-injective a b e)
@@ -60,7 +62,8 @@ pub bit_eq : (a b : ℕ) → 0 < bit a b → a ≡ b
 bit_eq a b h = dite (ℕ_discrete a b) (λ e. e) (λ ne. let z = bit_not a b ne in absurd (omega arith))
 
 pub bit_le : (a b : ℕ) → bit a b ≤ 1
-bit_le a b = dite (ℕ_discrete a b) (λ e. let z = bit_is a b e in omega arith) (λ ne. let z = bit_not a b ne in omega arith)
+bit_le a b = dite (ℕ_discrete a b) (λ e. let z = bit_is a b e in omega arith) (λ ne. let z = bit_not a b ne in
+    omega arith)
 
 -- the number of a test
 pub truth_is : (b : Bool) → b ≡ true → truth b ≡ 1
@@ -76,7 +79,8 @@ truth_le false = omega arith
 
 -- times
 pub times_cons : (m n : ℕ) (xs : List ℕ) (P : Type 0) → (m ≡ n → P) → (0 < times m xs → P) → 0 < times m (n ∷ xs) → P
-times_cons m n xs P here there h = dite (ℕ_discrete n m) (λ e. here (sym e)) (λ ne. there (let z = bit_not n m ne in omega arith))
+times_cons m n xs P here there h = dite (ℕ_discrete n m) (λ e. here (sym e)) (λ ne. there (let z = bit_not n m ne in
+    omega arith))
 
 pub times_here : (n : ℕ) (xs : List ℕ) → times n (n ∷ xs) ≡ 1 + times n xs
 times_here n xs = let z = bit_is n n refl in omega arith
@@ -92,22 +96,27 @@ times-append n [] ys = omega arith
 times-append n (x ∷ xs) ys = let r = times-append n xs ys in omega arith
 
 -- a fact of each entry of two lists
-pub times_either : (n : ℕ) (xs ys : List ℕ) (P : Type 0) → (0 < times n xs → P) → (0 < times n ys → P) → 0 < times n (xs ++ ys) → P
-times_either n xs ys P left right h = let e = times-append n xs ys in dite (ℕ_discrete (times n xs) 0) (λ z. right (omega arith))
-    (λ z. left (omega arith))
+pub times_either : (n : ℕ) (xs ys : List ℕ) (P : Type 0) → (0 < times n xs → P) → (0 < times n ys → P) → 0 < times n
+    (xs ++ ys) → P
+times_either n xs ys P left right h = let e = times-append n xs ys in
+    dite (ℕ_discrete (times n xs) 0) (λ z. right (omega arith)) (λ z. left (omega arith))
 
 pub without_here : (n : ℕ) (xs : List ℕ) → times n (without n xs) ≡ 0
 without_here n [] = refl
-without_here n (x ∷ xs) = dite (ℕ_discrete x n) (λ e. subst (λ (b : Bool). times n (cond b (without n xs) (x ∷ without n xs)) ≡ 0)
+without_here n (x ∷ xs) = dite (ℕ_discrete x n)
+    (λ e. subst (λ (b : Bool). times n (cond b (without n xs) (x ∷ without n xs)) ≡ 0)
     (sym (eq-eqb x n e)) (without_here n xs))
-    (λ ne. subst (λ (b : Bool). times n (cond b (without n xs) (x ∷ without n xs)) ≡ 0) (sym (ne_eqb x n ne)) (times_else n x (without n xs)
+    (λ ne. subst (λ (b : Bool). times n (cond b (without n xs) (x ∷ without n xs)) ≡ 0) (sym (ne_eqb x n ne))
+    (times_else n x (without n xs)
     (λ e. ne (sym e)) ∙ without_here n xs))
 
 pub without_le : (m n : ℕ) (xs : List ℕ) → times m (without n xs) ≤ times m xs
 without_le m n [] = omega arith
-without_le m n (x ∷ xs) = let r = without_le m n xs in dite (ℕ_discrete x n) (λ e. subst (λ (b : Bool). times m (cond b (without n xs)
+without_le m n (x ∷ xs) = let r = without_le m n xs in
+    dite (ℕ_discrete x n) (λ e. subst (λ (b : Bool). times m (cond b (without n xs)
     (x ∷ without n xs)) ≤ times m (x ∷ xs)) (sym (eq-eqb x n e)) (omega arith))
-    (λ ne. subst (λ (b : Bool). times m (cond b (without n xs) (x ∷ without n xs)) ≤ times m (x ∷ xs)) (sym (ne_eqb x n ne)) (omega arith))
+    (λ ne. subst (λ (b : Bool). times m (cond b (without n xs) (x ∷ without n xs)) ≤ times m (x ∷ xs))
+    (sym (ne_eqb x n ne)) (omega arith))
 
 -- what stays in the list without n is another number, and stood there
 pub without_from : (m n : ℕ) (xs : List ℕ) → 0 < times m (without n xs) → (m ≢ n) × (0 < times m xs)
@@ -133,31 +142,36 @@ pub losses_else : (m n l : ℕ) (xs : List Loss) → m ≢ n → losses m ((reco
 losses_else m n l xs ne = let z = bit_not n m (λ h. ne (sym h)) in omega arith
 
 pub lines_here : (n l : ℕ) (xs : List Loss) → lines n l ((record { name = n; line = l }) ∷ xs) ≡ 1 + lines n l xs
-lines_here n l xs = (λ i. cond (eq-eqb n n refl i) (bit l l) 0 + lines n l xs) ∙ ap (λ (z : ℕ). z + lines n l xs) (bit_is l l refl)
+lines_here n l xs = (λ i. cond (eq-eqb n n refl i) (bit l l) 0 + lines n l xs) ∙ ap (λ (z : ℕ). z + lines n l xs)
+    (bit_is l l refl)
 
 -- an entry of a longer list of losses is the first, or an earlier one
-pub lines_cons : (n l : ℕ) (x : Loss) (xs : List Loss) (P : Type 0) → (n ≡ x.name → l ≡ x.line → P) → (0 < lines n l xs → P) → 0 < lines n l (x ∷ xs)
-    → P
+pub lines_cons : (n l : ℕ) (x : Loss) (xs : List Loss) (P : Type 0) → (n ≡ x.name → l ≡ x.line → P)
+    → (0 < lines n l xs → P) → 0 < lines n l (x ∷ xs) → P
 lines_cons n l x xs P here there h = dite (ℕ_discrete x.name n)
-    (λ e. dite (ℕ_discrete x.line l) (λ d. here (sym e) (sym d)) (λ ne. there (let y : lines n l (x ∷ xs) ≡ bit x.line l + lines n l xs =
+    (λ e. dite (ℕ_discrete x.line l) (λ d. here (sym e) (sym d))
+    (λ ne. there (let y : lines n l (x ∷ xs) ≡ bit x.line l + lines n l xs =
     (λ i. cond (eq-eqb x.name n e i) (bit x.line l) 0 + lines n l xs) in let z = bit_not x.line l ne in omega arith)))
-    (λ ne. there (let y : lines n l (x ∷ xs) ≡ 0 + lines n l xs = (λ i. cond (ne_eqb x.name n ne i) (bit x.line l) 0 + lines n l xs) in omega arith))
+    (λ ne. there (let y : lines n l (x ∷ xs) ≡ 0 + lines n l xs = (λ i. cond (ne_eqb x.name n ne i)
+    (bit x.line l) 0 + lines n l xs) in omega arith))
 
 -- the numbers below n for which a test is true
 pub those_from : (p : ℕ → Bool) (n x : ℕ) → 0 < times x (those p n) → (x < n) × (p x ≡ true)
 those_from p zero x h = absurd (omega arith)
 those_from p (suc n) x h = by (those_from p n x) (p n) refl h
   where
-    by : (0 < times x (those p n) → (x < n) × (p x ≡ true)) → (b : Bool) → p n ≡ b → 0 < times x (cond b (n ∷ those p n) (those p n))
-        → (x < suc n) × (p x ≡ true)
-    by r true e l = times_cons x n (those p n) ((x < suc n) × (p x ≡ true)) (λ d. (omega arith, ap p d ∙ e)) (λ q. let t = r q in
+    by : (0 < times x (those p n) → (x < n) × (p x ≡ true)) → (b : Bool) → p n ≡ b → 0 < times x (cond b (n ∷ those p n)
+        (those p n)) → (x < suc n) × (p x ≡ true)
+    by r true e l = times_cons x n (those p n) ((x < suc n) × (p x ≡ true)) (λ d. (omega arith, ap p d ∙ e))
+        (λ q. let t = r q in
         let u = t.0 in (omega arith, t.1)) l
     by r false e l = let t = r l in let u = t.0 in (omega arith, t.1)
 
 pub those_has : (p : ℕ → Bool) (n x : ℕ) → x < n → p x ≡ true → 0 < times x (those p n)
 those_has p zero x l e = absurd (omega arith)
 those_has p (suc n) x l e = dite (ℕ_discrete x n)
-    (λ d. subst (λ (b : Bool). 0 < times x (cond b (n ∷ those p n) (those p n))) (sym (ap p (sym d) ∙ e)) (let z = bit_is n x (sym d) in omega arith))
+    (λ d. subst (λ (b : Bool). 0 < times x (cond b (n ∷ those p n) (those p n))) (sym (ap p (sym d) ∙ e))
+    (let z = bit_is n x (sym d) in omega arith))
     (λ ne. more (p n) (those p n) (those_has p n x (omega arith) e))
   where
     more : (b : Bool) (xs : List ℕ) → 0 < times x xs → 0 < times x (cond b (n ∷ xs) xs)
@@ -168,17 +182,21 @@ those_has p (suc n) x l e = dite (ℕ_discrete x n)
 pub up_to_is : (c g : ℕ) (xs : List ℕ) → times g (up_to c xs) ≡ min (times g xs) c
 up_to_is c g [] = omega arith
 up_to_is c g (x ∷ xs) = let r = up_to_is c g xs in let rx = up_to_is c x xs in dite (dec_le c (times x xs))
-    (λ l. subst (λ (b : Bool). times g (cond b (x ∷ up_to c xs) (up_to c xs)) ≡ min (times g (x ∷ xs)) c) (sym (le-ltb (times x xs) c l))
+    (λ l. subst (λ (b : Bool). times g (cond b (x ∷ up_to c xs) (up_to c xs)) ≡ min (times g (x ∷ xs)) c)
+    (sym (le-ltb (times x xs) c l))
     (dite (ℕ_discrete x g) (λ e. let z = bit_is x g e in let w = ap (λ (y : ℕ). times y xs) e in omega arith)
     (λ ne. let z = bit_not x g ne in omega arith)))
-    (λ l. subst (λ (b : Bool). times g (cond b (x ∷ up_to c xs) (up_to c xs)) ≡ min (times g (x ∷ xs)) c) (sym (lt-ltb (times x xs) c (omega arith)))
+    (λ l. subst (λ (b : Bool). times g (cond b (x ∷ up_to c xs) (up_to c xs)) ≡ min (times g (x ∷ xs)) c)
+    (sym (lt-ltb (times x xs) c (omega arith)))
     (dite (ℕ_discrete x g) (λ e. let z = bit_is x g e in let w = ap (λ (y : ℕ). times y xs) e in omega arith)
     (λ ne. let z = bit_not x g ne in omega arith)))
 
 pub beyond_is : (c g : ℕ) (xs : List ℕ) → times g (up_to c xs) + times g (beyond c xs) ≡ times g xs
 beyond_is c g [] = omega arith
 beyond_is c g (x ∷ xs) = let r = beyond_is c g xs in dite (dec_le c (times x xs))
-    (λ l. subst (λ (b : Bool). times g (cond b (x ∷ up_to c xs) (up_to c xs)) + times g (cond b (beyond c xs) (x ∷ beyond c xs)) ≡ times g (x ∷ xs))
+    (λ l. subst (λ (b : Bool). times g (cond b (x ∷ up_to c xs) (up_to c xs)) + times g (cond b (beyond c xs)
+    (x ∷ beyond c xs)) ≡ times g (x ∷ xs))
     (sym (le-ltb (times x xs) c l)) (omega arith))
-    (λ l. subst (λ (b : Bool). times g (cond b (x ∷ up_to c xs) (up_to c xs)) + times g (cond b (beyond c xs) (x ∷ beyond c xs)) ≡ times g (x ∷ xs))
+    (λ l. subst (λ (b : Bool). times g (cond b (x ∷ up_to c xs) (up_to c xs)) + times g (cond b (beyond c xs)
+    (x ∷ beyond c xs)) ≡ times g (x ∷ xs))
     (sym (lt-ltb (times x xs) c (omega arith))) (omega arith))

@@ -1,6 +1,6 @@
-//! The file machine: the state of one file, the steps of its actors, the rules that hold of it, and the law that every
-//! step keeps them. Nothing of it runs: these are the definitions that the table of atomic words and the accesses are
-//! proved against.
+//! The file machine: the state of one file, the steps of its actors, the rules that hold of it, and
+//! the law that every step keeps them. Nothing of it runs: these are the definitions that the table
+//! of atomic words and the accesses are proved against.
 #![tactic(auto)]
 
 mod answer;

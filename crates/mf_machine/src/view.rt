@@ -1,5 +1,6 @@
-//! What is known of one actor of a file. No value of a view is made: a clause reads a number of it without a limit, and
-//! an array as a list of any length. A generation, a name or a slot that may be absent is 0, or 1 more than its number.
+//! What is known of one actor of a file. No value of a view is made: a clause reads a number of it
+//! without a limit, and an array as a list of any length. A generation, a name or a slot that may
+//! be absent is 0, or 1 more than its number.
 
 /// A loss of a name, with the line of its lose command.
 pub struct Loss {
@@ -7,7 +8,8 @@ pub struct Loss {
     pub line: u64,
 }
 
-/// A close that was refused: the pins that it met, and the pins that its own actor then had on that generation.
+/// A close that was refused: the pins that it met, and the pins that its own actor then had on that
+/// generation.
 pub struct Refusal {
     pub generation: u64,
     pub pins: u64,
@@ -85,8 +87,8 @@ pub struct Met {
     pub not_dropped: [u64; 0],
 }
 
-/// What an actor is inside of: the name that it has Taken in a get, a birth, a retake, a lose or a drop, or whose drop
-/// is between its two tries.
+/// What an actor is inside of: the name that it has Taken in a get, a birth, a retake, a lose or a
+/// drop, or whose drop is between its two tries.
 pub struct Inside {
     pub getting: u64,
     pub bearing: u64,
@@ -99,7 +101,8 @@ pub struct Inside {
     pub tried: u64,
 }
 
-/// The steps so far; and of the last one that wasn't a give, its word and the value that it met there.
+/// The steps so far; and of the last one that wasn't a give, its word and the value that it met
+/// there.
 pub struct Step {
     pub count: u64,
     pub word: u64,
@@ -108,7 +111,8 @@ pub struct Step {
 
 /// One actor.
 pub struct View {
-    /// Its part of 2^30. It is 0 once another actor took it in, and bounds its pins on closed generations.
+    /// Its part of 2^30. It is 0 once another actor took it in, and bounds its pins on closed
+    /// generations.
     pub share: u64,
     /// The generation of each pin that fell on a closed one. It stays counted in the word.
     pub strays: [u64; 0],

@@ -2,4 +2,9 @@ use Rattle.mf_machine.proofs.Exhibits as exhibits
 use Rattle.mf_machine.proofs.law.no_rule_is_empty.Goals as goal
 
 pub returns : goal.returns
-returns c = record { rules = exhibits.each_breaks; accounted = exhibits.accounted_breaks; caused = exhibits.caused_breaks }
+returns c = record {
+  rules = exhibits.each_breaks;
+  accounted = exhibits.accounted_breaks;
+  caused =
+      exhibits.caused_breaks;
+}

@@ -4,7 +4,8 @@ use Rattle.std.specs.List.{flat_map}
 use Rattle.mf_text.specs.Decimal.{decimal_text}
 use Rattle.mf_lines.specs.declared.parts.Act.{Act}
 use Rattle.mf_lines.specs.declared.parts.Act.TheVariants as act
-use Rattle.mf_lines.specs.LineTexts.{name_at}
+use Rattle.mf_lines.specs.declared.forms.Form.TheVariants as says
+use Rattle.mf_lines.specs.LineTexts.{name_at, line_text}
 use Rattle.mf_client.specs.declared.done.Place.{Place}
 use Rattle.mf_client.specs.declared.done.Part.{Part}
 use Rattle.mf_client.specs.declared.done.Done.{Done}
@@ -16,10 +17,9 @@ use Rattle.mf_report.specs.Outcomes.{change_text, outcome_text}
 abbrev pub place_text : Place → List ℕ
 place_text place = decimal_text place.phase ++ pointed place.client ++ pointed place.command
 
--- a command, where the files have these names
+-- a command as a script has it, where the files have these names
 abbrev pub act_text : List (List ℕ) → Act → List ℕ
-act_text names (act.Create file) = codes "create " ++ name_at names file
-act_text names (act.Read file away) = codes "read " ++ name_at names file
+act_text names act = line_text names (says.Command act)
 
 -- whether the operations of a command count among those of conversions
 abbrev pub converts : Act → Bool

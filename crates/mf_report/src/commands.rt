@@ -45,21 +45,14 @@ fn name_of(files: &[FileLine], file: u32) -> &[u8]
     }
 }
 
-// A command.
-#[tactic(auto, using(std::proofs::lemmas::List::append_assoc))]
-fn push_act(out: &mut Vec<u8>, files: &[FileLine], act: &Act) -> Result<(), AllocError>
-    ensures { OnOk result (out.new.items ≡ out.old.items ++ act_text (names_in files.now) act.now) }
+// A command, as a script has it.
+#[tactic(auto, unfolding(mf_lines::specs::LineTexts::line_text), using(std::proofs::lemmas::List::append_assoc))]
+fn push_act(out: &mut Vec<u8>, files: &[FileLine], act: Act) -> Result<(), AllocError>
+    ensures { OnOk result (out.new.items ≡ out.old.items ++ act_text (names_in files.now) act) }
 {
-    match act {
-        Act::Create(file) => {
-            out.extend_from_slice(b"create ")?;
-            out.extend_from_slice(name_of(files, *file))
-        }
-        Act::Read { file, .. } => {
-            out.extend_from_slice(b"read ")?;
-            out.extend_from_slice(name_of(files, *file))
-        }
-    }
+    out.extend_from_slice(act.verb().text())?;
+    out.push(b' ')?;
+    out.extend_from_slice(name_of(files, act.file()))
 }
 
 // A command, and what came of it.
@@ -68,7 +61,7 @@ fn push_command(out: &mut Vec<u8>, files: &[FileLine], done: &Done) -> Result<()
     ensures { OnOk result
         (out.new.items ≡ out.old.items ++ command_text (names_in files.now) done.now) }
 {
-    push_act(out, files, &done.act)?;
+    push_act(out, files, done.act)?;
     out.extend_from_slice(b": ")?;
     push_outcome(out, &done.outcome)
 }

@@ -12,26 +12,35 @@ use Rattle.mf_report.specs.Commands.{converts}
 use Rattle.mf_report.specs.Report.{conversions}
 
 -- the sum of one kind so far and the next number fit, where the whole sum does
-next_fits : (f : Io → ℕ) (ios : List Io) (i sum : ℕ) → sum ≡ sum_by f (take i ios) → i < length ios → sum_by f ios < 2 ^ 64
-    → sum + f (get_or ios i no_io) < 2 ^ 64
+next_fits : (f : Io → ℕ) (ios : List Io) (i sum : ℕ) → sum ≡ sum_by f (take i ios) → i < length ios
+    → sum_by f ios < 2 ^ 64 → sum + f (get_or ios i no_io) < 2 ^ 64
 next_fits f ios i sum e within fits = omega (arith, sum_by_more_le f ios i no_io within)
 
 -- so do those of each kind
-pub next_fit : (ios : List Io) (i : ℕ) (sum : Io) → sum ≡ total_io (take i ios) → i < length ios → SumsFit ios → SumFits sum (get_or ios i no_io)
+pub next_fit : (ios : List Io) (i : ℕ) (sum : Io) → sum ≡ total_io (take i ios) → i < length ios → SumsFit ios
+    → SumFits sum (get_or ios i no_io)
 next_fit ios i sum e within fit = record {
-  pieces = next_fits (λ (io : Io). io.pieces) ios i sum.pieces (ap (λ (io : Io). io.pieces) e) within fit.pieces;
-  copies = next_fits (λ (io : Io). io.copies) ios i sum.copies (ap (λ (io : Io). io.copies) e) within fit.copies;
-  parities = next_fits (λ (io : Io). io.parities) ios i sum.parities (ap (λ (io : Io). io.parities) e) within fit.parities;
-  misses = next_fits (λ (io : Io). io.misses) ios i sum.misses (ap (λ (io : Io). io.misses) e) within fit.misses;
-  writes = next_fits (λ (io : Io). io.writes) ios i sum.writes (ap (λ (io : Io). io.writes) e) within fit.writes;
-  probes = next_fits (λ (io : Io). io.probes) ios i sum.probes (ap (λ (io : Io). io.probes) e) within fit.probes;
-  drops = next_fits (λ (io : Io). io.drops) ios i sum.drops (ap (λ (io : Io). io.drops) e) within fit.drops;
+  pieces =
+      next_fits (λ (io : Io). io.pieces) ios i sum.pieces (ap (λ (io : Io). io.pieces) e) within fit.pieces;
+  copies =
+      next_fits (λ (io : Io). io.copies) ios i sum.copies (ap (λ (io : Io). io.copies) e) within fit.copies;
+  parities =
+      next_fits (λ (io : Io). io.parities) ios i sum.parities (ap (λ (io : Io). io.parities) e) within fit.parities;
+  misses =
+      next_fits (λ (io : Io). io.misses) ios i sum.misses (ap (λ (io : Io). io.misses) e) within fit.misses;
+  writes =
+      next_fits (λ (io : Io). io.writes) ios i sum.writes (ap (λ (io : Io). io.writes) e) within fit.writes;
+  probes =
+      next_fits (λ (io : Io). io.probes) ios i sum.probes (ap (λ (io : Io). io.probes) e) within fit.probes;
+  drops =
+      next_fits (λ (io : Io). io.drops) ios i sum.drops (ap (λ (io : Io). io.drops) e) within fit.drops;
 }
 
 -- the sum of one kind fits, where each number of it is below 2 ^ 32 and there aren't many
-kind_fits : (f : Io → ℕ) → ((io : Io) → IsSmall io → f io ≤ 2 ^ 32) → (ios : List Io) → length ios ≤ 4096 → All IsSmall ios
-    → sum_by f ios < 2 ^ 64
-kind_fits f small ios few all = omega (arith, sum_by-le f (2 ^ 32) ios (All-weaker IsSmall (λ io. f io ≤ 2 ^ 32) small ios all))
+kind_fits : (f : Io → ℕ) → ((io : Io) → IsSmall io → f io ≤ 2 ^ 32) → (ios : List Io) → length ios ≤ 4096
+    → All IsSmall ios → sum_by f ios < 2 ^ 64
+kind_fits f small ios few all =
+    omega (arith, sum_by-le f (2 ^ 32) ios (All-weaker IsSmall (λ io. f io ≤ 2 ^ 32) small ios all))
 
 -- the sums of few counts of small numbers fit
 small_fit : (ios : List Io) → length ios ≤ 4096 → All IsSmall ios → SumsFit ios
@@ -46,15 +55,16 @@ small_fit ios few all = record {
 }
 
 -- the sums of what commands took fit
-pub done_fit : (done : List Done) (ios : List Io) → ios ≡ map (λ (d : Done). d.io) done → length done ≤ 4096
-    → All (λ (d : Done). IsSmall d.io) done → SumsFit ios
+pub done_fit : (done : List Done) (ios : List Io) → ios ≡ map (λ (d : Done). d.io) done
+    → length done ≤ 4096 → All (λ (d : Done). IsSmall d.io) done → SumsFit ios
 done_fit done ios e few all =
-    rw e (small_fit (map (λ (d : Done). d.io) done) (simp length-map few) (All-map IsSmall (λ (d : Done). d.io) done all))
+    rw e (small_fit (map (λ (d : Done). d.io) done) (simp length-map few)
+    (All-map IsSmall (λ (d : Done). d.io) done all))
 
 -- so do those of what the commands took that convert
-pub conversions_fit : (done : List Done) (ios : List Io) → ios ≡ map (λ (d : Done). d.io) (conversions done) → length done ≤ 4096
-    → All (λ (d : Done). IsSmall d.io) done → SumsFit ios
+pub conversions_fit : (done : List Done) (ios : List Io) → ios ≡ map (λ (d : Done). d.io) (conversions done)
+    → length done ≤ 4096 → All (λ (d : Done). IsSmall d.io) done → SumsFit ios
 conversions_fit done ios e few all =
     done_fit (conversions done) ios e
-    (omega (arith, length-filter (λ (d : Done). converts d.act) done, count_by-le-length (λ (d : Done). converts d.act) done))
+    (let p = λ (d : Done). converts d.act in omega (arith, length-filter p done, count_by-le-length p done))
     (All-filter (λ (d : Done). converts d.act) (λ (d : Done). IsSmall d.io) done all)

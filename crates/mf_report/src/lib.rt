@@ -1,5 +1,5 @@
-//! All that the program writes: the report of a run, the line of a family, and the lines that refuse a script or the
-//! words of a call.
+//! All that the program writes: the report of a run, the line of a family, and the lines that
+//! refuse a script or the words of a call.
 #![tactic(auto)]
 
 mod commands;

@@ -24,8 +24,9 @@ fn push_tolerances(line: &mut Vec<u8>, shape: &Shape) -> Result<(), AllocError>
     Ok(())
 }
 
-/// The line of an accepted family of this shape: `family ok stages Q tolerance T ..`, where Q is the number of stages,
-/// and each T how many lost names of one stripe a stage bears, stage 0 first. Fails only for want of memory.
+/// The line of an accepted family of this shape: `family ok stages Q tolerance T ..`, where Q is
+/// the number of stages, and each T how many lost names of one stripe a stage bears, stage 0 first.
+/// Fails only for want of memory.
 #[tactic(auto, using(std::proofs::lemmas::List::append_assoc))]
 pub fn accepted_line(alloc: Global, shape: &Shape) -> Result<Vec<u8>, AllocError>
     ensures { IfOk result (λ line. line.items ≡ accepted_text shape.now.stages) }
@@ -38,7 +39,8 @@ pub fn accepted_line(alloc: Global, shape: &Shape) -> Result<Vec<u8>, AllocError
     Ok(line)
 }
 
-/// The line of a refused script: `refused line L `, and the text of the fault. Fails only for want of memory.
+/// The line of a refused script: `refused line L `, and the text of the fault. Fails only for want
+/// of memory.
 #[tactic(auto, using(std::proofs::lemmas::List::append_assoc))]
 pub fn refused_line(alloc: Global, fault: &ScriptFault) -> Result<Vec<u8>, AllocError>
     ensures { IfOk result (λ line. line.items ≡ refused_text fault.now) }

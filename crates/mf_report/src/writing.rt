@@ -95,12 +95,13 @@ fn report_bytes(alloc: Global, script: &Script, commands: &[Done]) -> Result<Vec
     Ok(out)
 }
 
-/// Writes the report of these commands of the script, in their order: one line for each, with what came of it and the
-/// operations on chunks that it took, one line for each of its parts, and the sums of the operations.
+/// Writes the report of these commands of the script, in their order: one line for each, with what
+/// came of it and the operations on chunks that it took, one line for each of its parts, and the
+/// sums of the operations.
 ///
 /// # Errors
-/// `Sink` where a write failed: the sink's count has risen, and a front of the report was written. `Memory` where
-/// memory ran out; nothing was written then.
+/// `Sink` where a write failed: the sink's count has risen, and a front of the report was written.
+/// `Memory` where memory ran out; nothing was written then.
 pub fn report<K: Sink>(
     alloc: Global,
     sink: &mut K,

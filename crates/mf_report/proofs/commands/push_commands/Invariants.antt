@@ -4,4 +4,5 @@ use Rattle.mf_report.specs.Commands.{done_text}
 use Rattle.mf_report.proofs.commands.push_commands.Given as goal
 
 abbrev pub invariant-loop-done : goal.invariant-loop-done
-invariant-loop-done l = l.out.items ≡ l.initial.out.items ++ flat_map (done_text (names_in l.files)) (take l.done-index l.commands)
+invariant-loop-done l =
+    l.out.items ≡ l.initial.out.items ++ flat_map (done_text (names_in l.files)) (take l.done-index l.commands)

@@ -6,4 +6,5 @@ use Rattle.mf_report.proofs.commands.push_parts.Given as goal
 
 abbrev pub invariant-loop-part : goal.invariant-loop-part
 invariant-loop-part l =
-    l.out.items ≡ l.initial.out.items ++ flat_map (λ part. ended (part_line (names_in l.files) l.place part)) (take l.part-index l.parts)
+    l.out.items ≡ l.initial.out.items
+    ++ flat_map (λ part. ended (part_line (names_in l.files) l.place part)) (take l.part-index l.parts)

@@ -6,4 +6,7 @@ use Rattle.mf_report.proofs.verdicts.too_long_line.Goals as goal
 
 pub returns : goal.returns
 unfolding decimal_text
-returns c = sym (ap (λ d. ended (codes "refused line" ++ 32 ∷ d ++ codes " " ++ codes "limit text")) (decimal_digit 0 (lit< tt)))
+returns c =
+    sym
+    (ap (λ d. ended (codes "refused line" ++ 32 ∷ d ++ codes " " ++ codes "limit text"))
+    (decimal_digit 0 (lit< tt)))

@@ -4,4 +4,5 @@ use Rattle.mf_report.proofs.writing.conversions_took.Goals as goal
 
 pub total-requires : goal.total-requires
 total-requires c =
-    conversions_fit c.args.commands.now c.deref.result.now (c.deref.ensures.value ∙ c.in_ok-ios.ensures) c.requires.few c.requires.small
+    conversions_fit c.args.commands.now c.deref.result.now (c.deref.ensures.value ∙ c.in_ok-ios.ensures)
+    c.requires.few c.requires.small

@@ -1,5 +1,7 @@
 -- Lists: tests on the elements of a mapped list, the last element, the words of a line.
-use Rattle.std.proofs.Common.{◌≡◌, ℕ, zero, suc, ◌+◌, ◌-◌, ◌<◌, ◌≤◌, Bool, true, false, ◌||◌, not, cond, eqb, ltb, leb, List, [], ◌∷◌, ◌++◌, length, take, drop, map, get_or, Option, Some, None, Result, Ok, Err, Bor, refl, sym, ap, ◌∙◌, inl, inr, arith}
+use Rattle.std.proofs.Common.{◌≡◌, ℕ, zero, suc, ◌+◌, ◌-◌, ◌<◌, ◌≤◌, Bool, true, false, ◌||◌, not, cond, eqb, ltb}
+use Rattle.std.proofs.Common.{leb, List, [], ◌∷◌, ◌++◌, length, take, drop, map, get_or, Option, Some, None, Result}
+use Rattle.std.proofs.Common.{Ok, Err, Bor, refl, sym, ap, ◌∙◌, inl, inr, arith}
 use Rattle.std.specs.List.{list_any, position, position_or_len, join_with_byte, slice_get}
 use Rattle.std.proofs.lemmas.Bool.{cases_Bool, eqb-true, le-leb, or_parts, ltb-false}
 use Rattle.std.specs.Prelude.{option_to_list, is_some}
@@ -19,38 +21,48 @@ use Rattle.mf_lines.specs.Lines.{is_above, numbers_in, points_in, points_form, t
 
 -- ---- tests on a mapped list
 
-pub list_any-map : {X Y : Type 0} (p : Y → Bool) (f : X → Y) (xs : List X) → list_any p (map f xs) ≡ list_any (λ x. p (f x)) xs
+pub list_any-map : {X Y : Type 0} (p : Y → Bool) (f : X → Y) (xs : List X)
+    → list_any p (map f xs) ≡ list_any (λ x. p (f x)) xs
 list_any-map p f [] = refl
 list_any-map p f (x ∷ xs) = ap (λ b. p (f x) || b) (list_any-map p f xs)
 
-position_or_len-map : {X Y : Type 0} (p : Y → Bool) (f : X → Y) (xs : List X) → position_or_len p (map f xs) ≡ position_or_len (λ x. p (f x)) xs
+position_or_len-map : {X Y : Type 0} (p : Y → Bool) (f : X → Y) (xs : List X)
+    → position_or_len p (map f xs) ≡ position_or_len (λ x. p (f x)) xs
 position_or_len-map p f [] = refl
 position_or_len-map p f (x ∷ xs) = ap (λ n. cond (not (p (f x))) (1 + n) 0) (position_or_len-map p f xs)
 
-pub position-map : {X Y : Type 0} (p : Y → Bool) (f : X → Y) (xs : List X) → position p (map f xs) ≡ position (λ x. p (f x)) xs
-position-map p f xs = (λ i. cond (ltb (position_or_len-map p f xs i) (length-map xs f i)) (Some (position_or_len-map p f xs i)) None)
+pub position-map : {X Y : Type 0} (p : Y → Bool) (f : X → Y) (xs : List X)
+    → position p (map f xs) ≡ position (λ x. p (f x)) xs
+position-map p f xs =
+    (λ i. cond (ltb (position_or_len-map p f xs i) (length-map xs f i)) (Some (position_or_len-map p f xs i)) None)
 
 -- ---- numbers of which none is above the greatest
 
-pub none_above : (most : ℕ) (ns : List ℕ) (i d : ℕ) → list_any (is_above most) ns ≡ false → i < length ns → get_or ns i d ≤ most
+pub none_above : (most : ℕ) (ns : List ℕ) (i d : ℕ) → list_any (is_above most) ns ≡ false → i < length ns
+    → get_or ns i d ≤ most
 none_above most [] i d e lt = absurd (omega arith)
 none_above most (n ∷ ns) zero d e lt = ltb-false most n (or_parts (is_above most n) (list_any (is_above most) ns) e).0
-none_above most (n ∷ ns) (suc i) d e lt = none_above most ns i d (or_parts (is_above most n) (list_any (is_above most) ns) e).1 (omega arith)
+none_above most (n ∷ ns) (suc i) d e lt =
+    none_above most ns i d (or_parts (is_above most n) (list_any (is_above most) ns) e).1 (omega arith)
 
 -- ---- the last element
 
-pub on_last-push : {X : Type 0} (change : X → X) (xs : List X) (x : X) → on_last change (xs ++ x ∷ []) ≡ xs ++ change x ∷ []
+pub on_last-push : {X : Type 0} (change : X → X) (xs : List X) (x : X)
+    → on_last change (xs ++ x ∷ []) ≡ xs ++ change x ∷ []
 on_last-push change [] x = refl
 on_last-push change (y ∷ []) x = refl
 on_last-push change (y ∷ z ∷ xs) x = ap (λ r. y ∷ r) (on_last-push change (z ∷ xs) x)
 
 -- there was none
-pub left_out : {X : Type 0} (change : X → X) (old rest : List X) (r : Option X) → old ≡ rest ++ option_to_list r → r ≡ None → rest ≡ [] → rest ≡ on_last change old
+pub left_out : {X : Type 0} (change : X → X) (old rest : List X) (r : Option X) → old ≡ rest ++ option_to_list r
+    → r ≡ None → rest ≡ [] → rest ≡ on_last change old
 left_out change old rest r was is none = none ∙ ap (on_last change) (sym (was ∙ (λ i. none i ++ option_to_list (is i))))
 
-pub last_clients-is : (items : List Item) (n : ℕ) (clients : List Client) → n + 1 ≡ length items → slice_get items n ≡ Some (item.Phase clients) → last_clients items ≡ clients
+pub last_clients-is : (items : List Item) (n : ℕ) (clients : List Client) → n + 1 ≡ length items
+    → slice_get items n ≡ Some (item.Phase clients) → last_clients items ≡ clients
 last_clients-is [] n clients long e = absurd (omega arith)
-last_clients-is (item.Phase others ∷ []) zero clients long e = let same : item.Phase others ≡ item.Phase clients = cc in ap last_clients (ap (λ x. x ∷ []) same)
+last_clients-is (item.Phase others ∷ []) zero clients long e =
+    let same : item.Phase others ≡ item.Phase clients = cc in ap last_clients (ap (λ x. x ∷ []) same)
 last_clients-is (x ∷ []) (suc n) clients long e = absurd (omega arith)
 last_clients-is (x ∷ y ∷ items) zero clients long e = absurd (omega arith)
 last_clients-is (x ∷ y ∷ items) (suc n) clients long e = last_clients-is (y ∷ items) n clients (omega arith) e
@@ -69,7 +81,8 @@ some_clients (c ∷ clients) b e =
     ]
 
 -- the last element is taken away and put back changed
-pub put_back : {X : Type 0} (change : X → X) (old rest new : List X) (r : Option X) (x : X) → old ≡ rest ++ option_to_list r → r ≡ Some x → new ≡ rest ++ change x ∷ [] → new ≡ on_last change old
+pub put_back : {X : Type 0} (change : X → X) (old rest new : List X) (r : Option X) (x : X)
+    → old ≡ rest ++ option_to_list r → r ≡ Some x → new ≡ rest ++ change x ∷ [] → new ≡ on_last change old
 put_back change old rest new r x was is e =
     e ∙ sym (on_last-push change rest x) ∙ ap (on_last change) (sym (was ∙ ap (λ o. rest ++ option_to_list o) is))
 
@@ -78,9 +91,11 @@ put_back change old rest new r x was is e =
 abbrev is_space : ℕ → Bool
 is_space b = eqb b 32
 
-pub words_of-at : (line : List ℕ) (k : ℕ) → position is_space line ≡ Some k → words_of line ≡ take k line ∷ words_of (take (length line - (k + 1)) (drop (k + 1) line))
+pub words_of-at : (line : List ℕ) (k : ℕ) → position is_space line ≡ Some k
+    → words_of line ≡ take k line ∷ words_of (take (length line - (k + 1)) (drop (k + 1) line))
 unfolding words_of
-words_of-at line k e = slice_split_some is_space line k e ∙ ap (λ rest. take k line ∷ words_of rest) (sym (take_rest line (k + 1)))
+words_of-at line k e =
+    slice_split_some is_space line k e ∙ ap (λ rest. take k line ∷ words_of rest) (sym (take_rest line (k + 1)))
 
 pub words_of-whole : (line : List ℕ) → position is_space line ≡ None → words_of line ≡ line ∷ []
 unfolding words_of
@@ -114,19 +129,24 @@ abbrev pub numbers_with : List ℕ → Result (List ℕ) Kind → Result (List �
 numbers_with front (Ok more) = Ok (front ++ more)
 numbers_with front (Err k) = Err k
 
-pub numbers_more : (front : List ℕ) (words : List (List ℕ)) (w : List ℕ) (rest : List (List ℕ)) (n : ℕ) → words ≡ w ∷ rest → spelled w ≡ Ok n → numbers_with front (numbers_in words) ≡ numbers_with (front ++ n ∷ []) (numbers_in rest)
+pub numbers_more : (front : List ℕ) (words : List (List ℕ)) (w : List ℕ) (rest : List (List ℕ)) (n : ℕ)
+    → words ≡ w ∷ rest → spelled w ≡ Ok n
+    → numbers_with front (numbers_in words) ≡ numbers_with (front ++ n ∷ []) (numbers_in rest)
 numbers_more front words w rest n is e =
     ap (λ ws. numbers_with front (numbers_in ws)) is
     ∙ ap (λ r. numbers_with front (r >>= λ m. numbers_in rest >>= λ more. Ok (m ∷ more))) e
     ∙ go (numbers_in rest)
   where
-    go : (r : Result (List ℕ) Kind) → numbers_with front (r >>= λ more. Ok (n ∷ more)) ≡ numbers_with (front ++ n ∷ []) r
+    go : (r : Result (List ℕ) Kind)
+        → numbers_with front (r >>= λ more. Ok (n ∷ more)) ≡ numbers_with (front ++ n ∷ []) r
     go (Ok more) = ap Ok (sym (append_assoc front (n ∷ []) more))
     go (Err k) = refl
 
-pub numbers_refused : (front : List ℕ) (words : List (List ℕ)) (w : List ℕ) (rest : List (List ℕ)) (k : Kind) → words ≡ w ∷ rest → spelled w ≡ Err k → numbers_with front (numbers_in words) ≡ Err k
+pub numbers_refused : (front : List ℕ) (words : List (List ℕ)) (w : List ℕ) (rest : List (List ℕ)) (k : Kind)
+    → words ≡ w ∷ rest → spelled w ≡ Err k → numbers_with front (numbers_in words) ≡ Err k
 numbers_refused front words w rest k is e =
-    ap (λ ws. numbers_with front (numbers_in ws)) is ∙ ap (λ r. numbers_with front (r >>= λ m. numbers_in rest >>= λ more. Ok (m ∷ more))) e
+    ap (λ ws. numbers_with front (numbers_in ws)) is
+    ∙ ap (λ r. numbers_with front (r >>= λ m. numbers_in rest >>= λ more. Ok (m ∷ more))) e
 
 pub numbers_start : (words : List (List ℕ)) → numbers_in words ≡ numbers_with [] (numbers_in words)
 numbers_start words = go (numbers_in words)
@@ -141,6 +161,7 @@ pub behind_some : (rest : Option (Bor (List ℕ))) → is_some rest ≡ true →
 behind_some None some e = absurd cc
 behind_some (Some line) some e = let words = words_of-some line.now in let no = sym words.2 ∙ e in absurd cc
 
-pub points_are : (words : List (List ℕ)) (ns : List ℕ) → (words ≡ [] → ⊥) → numbers_in words ≡ Ok ns → points_in ns ≡ points_form words
+pub points_are : (words : List (List ℕ)) (ns : List ℕ) → (words ≡ [] → ⊥) → numbers_in words ≡ Ok ns
+    → points_in ns ≡ points_form words
 points_are [] ns some e = absurd (some refl)
 points_are (w ∷ ws) ns some e = sym (ap (λ r. r >>= points_in) e)

@@ -1,6 +1,7 @@
 -- What a line says behind those before it, or the kind of its fault. In each line the kinds are tried in their order:
 -- text, header, unknown, arity, number, limit, twice, nofile, noserver, order; and limits in the order of their names.
-use Rattle.std.specs.Prelude.{◌≡◌, ◌≢◌, ℕ, ◌==◌, ◌&&◌, ◌||◌, not, nat_lt, nat_le, Bool, true, false, if◌then◌else◌, List, [], ◌∷◌}
+use Rattle.std.specs.Prelude.{◌≡◌, ◌≢◌, ℕ, ◌==◌, ◌&&◌, ◌||◌, not, nat_lt, nat_le, Bool, true, false, if◌then◌else◌}
+use Rattle.std.specs.Prelude.{List, [], ◌∷◌}
 use Rattle.std.specs.Prelude.{length, Option, Some, None, Result, Ok, Err, codes, ok_or, position, Vec}
 use Rattle.std.specs.Global.{Global}
 use Rattle.std.specs.Int.{div_ceil}

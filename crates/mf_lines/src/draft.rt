@@ -18,9 +18,10 @@ use std::alloc::{AllocError, Global};
 // The number of the one family, to which every file belongs.
 const FIRST_FAMILY: u32 = 0;
 
-/// What the lines so far add up to: how many they are, the word of the last one, and what they say of the script.
-/// Numbers of which no line has told are 0, and so is `stage_line`, the number of the first stage's line, before it.
-/// `names` has the names of the files, and `file_families` the number of each file's family.
+/// What the lines so far add up to: how many they are, the word of the last one, and what they say
+/// of the script. Numbers of which no line has told are 0, and so is `stage_line`, the number of
+/// the first stage's line, before it. `names` has the names of the files, and `file_families` the
+/// number of each file's family.
 #[derive(Drop)]
 pub struct Draft {
     pub lines: u32,
@@ -171,7 +172,8 @@ impl Draft {
     /// Reads the next line.
     ///
     /// # Errors
-    /// The first kind of fault that the line has, in the order of the kinds, or `Memory` where memory ran out.
+    /// The first kind of fault that the line has, in the order of the kinds, or `Memory` where
+    /// memory ran out.
     pub fn add_line(&mut self, alloc: Global, line: &[u8]) -> Result<(), Kind>
         requires draft { IsDraft self.old }
         requires room { self.old.lines < 2 ^ 31 }

@@ -6,7 +6,8 @@ ghost use Rattle.mf_text.specs.Lines.{is_clean};
 ghost use Rattle.mf_lines.specs.Words.{behind};
 ghost use Rattle.mf_lines.specs.Meaning.{verb_of, file_in, first_word};
 ghost use Rattle.mf_lines.specs.Lines.{Says, SaysList, within, is_above, numbers_in, may_follow};
-ghost use Rattle.mf_lines.specs.Lines.{servers_form, chunk_form, points_in, points_form, stage_form};
+ghost use Rattle.mf_lines.specs.Lines.{servers_form, chunk_form, points_in, points_form};
+ghost use Rattle.mf_lines.specs.Lines.{stage_form};
 ghost use Rattle.mf_lines.specs.Lines.{phase_form, client_form, file_operand, act_in, form_in};
 ghost use Rattle.mf_lines.specs.Lines.{first_form, form_at};
 ghost use Rattle.mf_lines.specs.Drafts.{so_in, IsDraft};
@@ -299,7 +300,8 @@ fn first_line(line: &[u8]) -> Result<Form, Kind>
 /// What a line says behind those before it.
 ///
 /// # Errors
-/// The first kind of fault that the line has, in the order of the kinds, or `Memory` where memory ran out.
+/// The first kind of fault that the line has, in the order of the kinds, or `Memory` where memory
+/// ran out.
 #[tactic(auto, unfolding(crate::specs::Lines::form_at))]
 pub fn read_line(alloc: Global, draft: &Draft, line: &[u8]) -> Result<Form, Kind>
     requires { IsDraft draft.now }

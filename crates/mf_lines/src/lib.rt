@@ -1,4 +1,5 @@
-//! The lines of a script: what a line says behind those before it, or its fault, and what the lines so far add up to.
+//! The lines of a script: what a line says behind those before it, or its fault, and what the lines
+//! so far add up to.
 #![tactic(auto)]
 
 mod draft;

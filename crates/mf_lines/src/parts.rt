@@ -6,7 +6,8 @@ use mf_shape::ShapeFault;
 use std::alloc::{AllocError, AllocFailed};
 use std::marker::Model;
 
-/// What has a limit, in the order in which the limits of a line are tried. `Text` is the length of the whole text.
+/// What has a limit, in the order in which the limits of a line are tried. `Text` is the length of
+/// the whole text.
 #[derive(Clone, Copy, Debug, PartialEq, Eq)]
 pub enum LimitName {
     Text,
@@ -25,15 +26,16 @@ pub enum LimitName {
     Commands,
 }
 
-/// The kinds of faults, in the order in which they are tried: those of a line, and, where no line has one, that of the
-/// stages and that of the points. Want of memory may come at any place.
+/// The kinds of faults, in the order in which they are tried: those of a line, and, where no line
+/// has one, that of the stages and that of the points. Want of memory may come at any place.
 #[derive(Debug, Drop)]
 pub enum Kind {
     /// A byte outside 32 to 126 that is no part of a line's end.
     Text,
     /// The first line isn't `morph 1`, or there is none.
     Header,
-    /// No line begins with this word, no content has this name, or this is a second client of its phase.
+    /// No line begins with this word, no content has this name, or this is a second client of its
+    /// phase.
     Unknown,
     /// No line of this kind has so many words, or the bytes of a `text` file are none.
     Arity,
@@ -79,8 +81,9 @@ impl<T: Drop> From<AllocFailed<T>> for Kind {
     }
 }
 
-/// What is wrong with a script, and the line, from 1, in which; line 0 is the text as a whole. The line of the kinds
-/// `Shape` and `Family` is that of the first stage, and that of `Memory` says nothing.
+/// What is wrong with a script, and the line, from 1, in which; line 0 is the text as a whole. The
+/// line of the kinds `Shape` and `Family` is that of the first stage, and that of `Memory` says
+/// nothing.
 #[derive(Debug, Drop)]
 pub struct ScriptFault {
     pub line: u32,
@@ -119,8 +122,8 @@ impl Bytes {
     }
 }
 
-/// The bytes of a file: none, those of the rest of a line, those that a word of hexadecimal digits spells, or
-/// `length` bytes of which byte x is (x + `start`) mod 251.
+/// The bytes of a file: none, those of the rest of a line, those that a word of hexadecimal digits
+/// spells, or `length` bytes of which byte x is (x + `start`) mod 251.
 #[derive(Debug, Drop)]
 pub enum Content {
     Empty,

@@ -2,7 +2,8 @@
 
 ghost use Rattle.std.specs.Prelude.{◌≡◌, ◌==◌, ◌∷◌, [], position, IfOk, IfErr, Ok, Err};
 ghost use Rattle.mf_text.specs.Words.{words_of};
-ghost use Rattle.mf_lines.specs.Words.{verb_text, word_text, word_of, content_text, content_word_of};
+ghost use Rattle.mf_lines.specs.Words.{verb_text, word_text, word_of, content_text};
+ghost use Rattle.mf_lines.specs.Words.{content_word_of};
 ghost use Rattle.mf_lines.specs.Words.{behind, no_words, one_word, two_words, three_words};
 ghost use Rattle.mf_lines.specs.Words.{spelled, small, number_in};
 
@@ -186,7 +187,8 @@ pub fn last_word(rest: Option<&[u8]>) -> Result<&[u8], Kind>
 
 /// The two words that are left.
 pub fn last_two_words(rest: Option<&[u8]>) -> Result<(&[u8], &[u8]), Kind>
-    ensures some { IfOk result (λ words. two_words (behind rest.entry) ≡ Ok (words.0.now, words.1.now)) }
+    ensures some { IfOk result
+        (λ words. two_words (behind rest.entry) ≡ Ok (words.0.now, words.1.now)) }
     ensures none { IfErr result (λ kind. two_words (behind rest.entry) ≡ Err kind) }
 {
     let (first, rest) = next_word(rest)?;

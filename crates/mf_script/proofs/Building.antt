@@ -1,5 +1,6 @@
 -- The forms of a script's lines are those that it was read from.
-use Rattle.std.proofs.Common.{◌≡◌, ℕ, ◌+◌, true, List, [], ◌∷◌, ◌++◌, map, Option, Some, None, refl, sym, ap, ◌∙◌, subst, inl, inr}
+use Rattle.std.proofs.Common.{◌≡◌, ℕ, ◌+◌, true, List, [], ◌∷◌, ◌++◌, map, Option, Some, None, refl, sym, ap, ◌∙◌}
+use Rattle.std.proofs.Common.{subst, inl, inr}
 use Rattle.std.specs.List.{flat_map}
 use Rattle.std.proofs.lemmas.List.{append-nil, append_assoc, map_push}
 use Rattle.mf_shape.specs.declared.Stage.{Stage}
@@ -13,7 +14,9 @@ use Rattle.mf_lines.specs.declared.parts.Item.TheVariants as item
 use Rattle.mf_lines.specs.declared.parts.FileLine.{FileLine}
 use Rattle.mf_lines.specs.declared.forms.Form.{Form}
 use Rattle.mf_lines.specs.declared.forms.Form.TheVariants as says
-use Rattle.mf_lines.specs.Meaning.{Block, Script, SoFar, first_word, on_last, with_points, with_stage, with_client, client_with, with_command, with_form, no_block, no_script, so_before, with_line, so_with, so_of}
+use Rattle.mf_lines.specs.Meaning.{Block, Script, SoFar, first_word, on_last, with_points, with_stage, with_client}
+use Rattle.mf_lines.specs.Meaning.{client_with, with_command, with_form, no_block, no_script, so_before, with_line}
+use Rattle.mf_lines.specs.Meaning.{so_with, so_of}
 use Rattle.mf_lines.specs.Lines.{may_follow, may_follow_command, form_at}
 use Rattle.mf_lines.proofs.ListLemmas.{on_last-push}
 use Rattle.mf_lines.proofs.FormLemmas.{LineIs, line_is}
@@ -23,10 +26,12 @@ use Rattle.mf_script.proofs.Lists.{flat_push}
 
 -- ---- one more at the end
 
-phase_client : (clients : List Client) (client : Client) → item_forms (item.Phase (clients ++ client ∷ [])) ≡ item_forms (item.Phase clients) ++ client_forms client
+phase_client : (clients : List Client) (client : Client)
+    → item_forms (item.Phase (clients ++ client ∷ [])) ≡ item_forms (item.Phase clients) ++ client_forms client
 phase_client clients client = ap (λ r. says.Phase ∷ r) (flat_push client_forms clients client)
 
-client_command : (client : Client) (command : Command) → client_forms (client_with command client) ≡ client_forms client ++ command_form command ∷ []
+client_command : (client : Client) (command : Command)
+    → client_forms (client_with command client) ≡ client_forms client ++ command_form command ∷ []
 client_command client command = ap (λ r. says.Client ∷ r) (map_push command_form client.commands command)
 
 -- a phase is open, and a client is
@@ -45,7 +50,8 @@ no_commands : Client
 no_commands = record { commands = [] }
 
 client_added : (items : List Item) → HasPhase items
-    → (flat_map item_forms (on_last with_client items) ≡ flat_map item_forms items ++ says.Client ∷ []) × HasClient (on_last with_client items)
+    → (flat_map item_forms (on_last with_client items) ≡ flat_map item_forms items ++ says.Client ∷ [])
+    × HasClient (on_last with_client items)
 unfolding no_commands
 client_added items h =
     let new : on_last with_client items ≡ h.before ++ item.Phase (h.clients ++ no_commands ∷ []) ∷ [] =
@@ -53,23 +59,35 @@ client_added items h =
       ap (flat_map item_forms) new ∙ flat_push item_forms h.before (item.Phase (h.clients ++ no_commands ∷ []))
           ∙ ap (λ r. flat_map item_forms h.before ++ r) (phase_client h.clients no_commands)
           ∙ sym (append_assoc (flat_map item_forms h.before) (item_forms (item.Phase h.clients)) (says.Client ∷ []))
-          ∙ ap (λ r. r ++ says.Client ∷ []) (sym (flat_push item_forms h.before (item.Phase h.clients)) ∙ ap (flat_map item_forms) (sym h.is)),
+          ∙ ap (λ r. r ++ says.Client ∷ []) (sym (flat_push item_forms h.before (item.Phase h.clients))
+          ∙ ap (flat_map item_forms) (sym h.is)),
       record { before = h.before; clients = h.clients; client = no_commands; is = new },
     )
 
 command_added : (items : List Item) (command : Command) → HasClient items
-    → (flat_map item_forms (on_last (with_command command) items) ≡ flat_map item_forms items ++ command_form command ∷ []) × HasClient (on_last (with_command command) items)
+    → (flat_map item_forms
+    (on_last (with_command command) items) ≡ flat_map item_forms items ++ command_form command ∷ [])
+    × HasClient (on_last (with_command command) items)
 command_added items command h =
-    let new : on_last (with_command command) items ≡ h.before ++ item.Phase (h.clients ++ client_with command h.client ∷ []) ∷ [] =
-    ap (on_last (with_command command)) h.is ∙ on_last-push (with_command command) h.before (item.Phase (h.clients ++ h.client ∷ []))
+    let new : on_last (with_command command) items ≡ h.before ++ item.Phase
+    (h.clients ++ client_with command h.client ∷ []) ∷ [] =
+    ap (on_last (with_command command)) h.is
+    ∙ on_last-push (with_command command) h.before (item.Phase (h.clients ++ h.client ∷ []))
     ∙ ap (λ cs. h.before ++ item.Phase cs ∷ []) (on_last-push (client_with command) h.clients h.client) in
-    let last : item_forms (item.Phase (h.clients ++ client_with command h.client ∷ [])) ≡ item_forms (item.Phase (h.clients ++ h.client ∷ [])) ++ command_form command ∷ [] =
-    phase_client h.clients (client_with command h.client) ∙ ap (λ r. item_forms (item.Phase h.clients) ++ r) (client_command h.client command)
+    let last : item_forms (item.Phase (h.clients ++ client_with command h.client ∷ [])) ≡ item_forms
+    (item.Phase (h.clients ++ h.client ∷ [])) ++ command_form command ∷ [] =
+    phase_client h.clients (client_with command h.client)
+    ∙ ap (λ r. item_forms (item.Phase h.clients) ++ r) (client_command h.client command)
     ∙ sym (append_assoc (item_forms (item.Phase h.clients)) (client_forms h.client) (command_form command ∷ []))
     ∙ ap (λ r. r ++ command_form command ∷ []) (sym (phase_client h.clients h.client)) in (
-      ap (flat_map item_forms) new ∙ flat_push item_forms h.before (item.Phase (h.clients ++ client_with command h.client ∷ [])) ∙ ap (λ r. flat_map item_forms h.before ++ r) last
-          ∙ sym (append_assoc (flat_map item_forms h.before) (item_forms (item.Phase (h.clients ++ h.client ∷ []))) (command_form command ∷ []))
-          ∙ ap (λ r. r ++ command_form command ∷ []) (sym (flat_push item_forms h.before (item.Phase (h.clients ++ h.client ∷ []))) ∙ ap (flat_map item_forms) (sym h.is)),
+      ap (flat_map item_forms) new
+          ∙ flat_push item_forms h.before (item.Phase (h.clients ++ client_with command h.client ∷ []))
+          ∙ ap (λ r. flat_map item_forms h.before ++ r) last
+          ∙ sym (append_assoc (flat_map item_forms h.before) (item_forms (item.Phase (h.clients ++ h.client ∷ [])))
+          (command_form command ∷ []))
+          ∙ ap (λ r. r ++ command_form command ∷ [])
+          (sym (flat_push item_forms h.before (item.Phase (h.clients ++ h.client ∷ [])))
+          ∙ ap (flat_map item_forms) (sym h.is)),
       record { before = h.before; clients = h.clients; client = client_with command h.client; is = new },
     )
 
@@ -112,7 +130,9 @@ push : (a b : List Form) (f : Form) → a ≡ b → a ++ f ∷ [] ≡ b ++ f ∷
 push a b f e = ap (λ r. r ++ f ∷ []) e
 
 -- the items of a body, one form longer
-longer : (s : Script) (items : List Item) (f : Form) → flat_map item_forms items ≡ flat_map item_forms s.items ++ f ∷ [] → body s ++ f ∷ [] ≡ filed s ++ flat_map item_forms items
+longer : (s : Script) (items : List Item) (f : Form)
+    → flat_map item_forms items ≡ flat_map item_forms s.items ++ f ∷ []
+    → body s ++ f ∷ [] ≡ filed s ++ flat_map item_forms items
 unfolding body
 longer s items f e = append_assoc (filed s) (flat_map item_forms s.items) (f ∷ []) ∙ ap (λ r. filed s ++ r) (sym e)
 
@@ -121,54 +141,69 @@ body_filed : (s : Script) → s.items ≡ [] → filed s ≡ body s
 unfolding body
 body_filed s e = sym (ap (λ is. filed s ++ flat_map item_forms is) e ∙ append-nil (filed s))
 
-add_phase : (s : Script) (n : ℕ) (forms : List Form) → forms ≡ body s → Built (Some word.Phase) (with_form s n says.Phase) (forms ++ says.Phase ∷ [])
+add_phase : (s : Script) (n : ℕ) (forms : List Form) → forms ≡ body s
+    → Built (Some word.Phase) (with_form s n says.Phase) (forms ++ says.Phase ∷ [])
 unfolding Built body filed
 add_phase s n forms e = (
-  push forms (body s) says.Phase e ∙ longer s (s.items ++ item.Phase [] ∷ []) says.Phase (flat_push item_forms s.items (item.Phase [])),
+  push forms (body s) says.Phase e
+      ∙ longer s (s.items ++ item.Phase [] ∷ []) says.Phase (flat_push item_forms s.items (item.Phase [])),
   record { before = s.items; clients = []; is = refl },
 )
 
-add_client : (s : Script) (n : ℕ) (forms : List Form) → forms ≡ body s → HasPhase s.items → Built (Some word.Client) (with_form s n says.Client) (forms ++ says.Client ∷ [])
+add_client : (s : Script) (n : ℕ) (forms : List Form) → forms ≡ body s → HasPhase s.items
+    → Built (Some word.Client) (with_form s n says.Client) (forms ++ says.Client ∷ [])
 unfolding Built body filed
 add_client s n forms e h =
     let new = client_added s.items h in
     (push forms (body s) says.Client e ∙ longer s (on_last with_client s.items) says.Client new.0, new.1)
 
 add_command : (s : Script) (n : ℕ) (act : Act) (forms : List Form) → forms ≡ body s → HasClient s.items
-    → (forms ++ says.Command act ∷ [] ≡ body (with_form s n (says.Command act))) × HasClient (with_form s n (says.Command act)).items
+    → (forms ++ says.Command act ∷ [] ≡ body (with_form s n (says.Command act)))
+    × HasClient (with_form s n (says.Command act)).items
 unfolding body filed
 add_command s n act forms e h =
     let command : Command = record { line = n; act = act } in
-    let new = command_added s.items command h in
-    (push forms (body s) (says.Command act) e ∙ longer s (on_last (with_command command) s.items) (says.Command act) new.0, new.1)
+    let new = command_added s.items command h in (
+      push forms (body s) (says.Command act) e
+          ∙ longer s (on_last (with_command command) s.items) (says.Command act) new.0,
+      new.1,
+    )
 
 -- the lines of the store, where the one family is this
-one_block : (s : Script) (block : Block) → s.families ≡ block ∷ [] → store_forms s ≡ says.Morph ∷ says.Servers s.servers ∷ says.Chunk s.chunk ∷ block_forms block
+one_block : (s : Script) (block : Block) → s.families ≡ block ∷ []
+    → store_forms s ≡ says.Morph ∷ says.Servers s.servers ∷ says.Chunk s.chunk ∷ block_forms block
 one_block s block e =
     ap (λ bs. says.Morph ∷ says.Servers s.servers ∷ says.Chunk s.chunk ∷ flat_map block_forms bs) e
     ∙ ap (λ r. says.Morph ∷ says.Servers s.servers ∷ says.Chunk s.chunk ∷ r) (append-nil (block_forms block))
 
 -- the points behind the chunk size, one stage more behind these, and one file more behind the store's lines
-add_points : (s : Script) (forms : List Form) (n : ℕ) (points : List ℕ) → forms ≡ says.Morph ∷ says.Servers s.servers ∷ says.Chunk s.chunk ∷ [] → Bare s
+add_points : (s : Script) (forms : List Form) (n : ℕ) (points : List ℕ)
+    → forms ≡ says.Morph ∷ says.Servers s.servers ∷ says.Chunk s.chunk ∷ [] → Bare s
     → Built (Some word.Points) (with_form s n (says.Points points)) (forms ++ says.Points points ∷ [])
 unfolding Built
 add_points s forms n points e bare =
-    let one : on_last (with_points points) s.families ≡ with_points points no_block ∷ [] = ap (on_last (with_points points)) bare.families in (
-      push forms _ (says.Points points) e ∙ sym (one_block (with_form s n (says.Points points)) (with_points points no_block) one),
+    let one : on_last (with_points points) s.families ≡ with_points points no_block ∷ [] =
+    ap (on_last (with_points points)) bare.families in (
+      push forms _ (says.Points points) e
+          ∙ sym (one_block (with_form s n (says.Points points)) (with_points points no_block) one),
       record { block = with_points points no_block; families = one; files = bare.files; items = bare.items },
     )
 
-add_stage : (s : Script) (forms : List Form) (n : ℕ) (stage : Stage) → forms ≡ store_forms s → Unfiled s → Built (Some word.Stage) (with_form s n (says.Stage stage)) (forms ++ says.Stage stage ∷ [])
+add_stage : (s : Script) (forms : List Form) (n : ℕ) (stage : Stage) → forms ≡ store_forms s → Unfiled s
+    → Built (Some word.Stage) (with_form s n (says.Stage stage)) (forms ++ says.Stage stage ∷ [])
 unfolding Built
 add_stage s forms n stage e h =
-    let one : on_last (with_stage stage) s.families ≡ with_stage stage h.block ∷ [] = ap (on_last (with_stage stage)) h.families in (
+    let one : on_last (with_stage stage) s.families ≡ with_stage stage h.block ∷ [] =
+    ap (on_last (with_stage stage)) h.families in (
       push forms _ (says.Stage stage) (e ∙ one_block s h.block h.families)
-          ∙ ap (λ r. says.Morph ∷ says.Servers s.servers ∷ says.Chunk s.chunk ∷ says.Points h.block.points ∷ r) (sym (map_push says.Stage h.block.stages stage))
+          ∙ ap (λ r. says.Morph ∷ says.Servers s.servers ∷ says.Chunk s.chunk ∷ says.Points h.block.points ∷ r)
+          (sym (map_push says.Stage h.block.stages stage))
           ∙ sym (one_block (with_form s n (says.Stage stage)) (with_stage stage h.block) one),
       record { block = with_stage stage h.block; families = one; files = h.files; items = h.items },
     )
 
-add_file : (s : Script) (forms : List Form) (n : ℕ) (file : FileLine) → forms ≡ filed s → s.items ≡ [] → Built (Some word.File) (with_form s n (says.File file)) (forms ++ says.File file ∷ [])
+add_file : (s : Script) (forms : List Form) (n : ℕ) (file : FileLine) → forms ≡ filed s → s.items ≡ []
+    → Built (Some word.File) (with_form s n (says.File file)) (forms ++ says.File file ∷ [])
 unfolding Built filed
 add_file s forms n file e bare = (
   push forms (filed s) (says.File file) e ∙ append_assoc (store_forms s) (map says.File s.files) (says.File file ∷ [])
@@ -181,18 +216,24 @@ unfolding filed
 filed_bare s e = sym (ap (λ fs. store_forms s ++ map says.File fs) e ∙ append-nil (store_forms s))
 
 -- behind a client or a command
-in_client : (s : Script) (n : ℕ) (forms : List Form) (form : Form) → may_follow_command (first_word form) ≡ true → forms ≡ body s → HasClient s.items → Built (Some (first_word form)) (with_form s n form) (forms ++ form ∷ [])
+in_client : (s : Script) (n : ℕ) (forms : List Form) (form : Form) → may_follow_command (first_word form) ≡ true
+    → forms ≡ body s → HasClient s.items → Built (Some (first_word form)) (with_form s n form) (forms ++ form ∷ [])
 unfolding Built
-in_client s n forms says.Client e is h = add_client s n forms is (record { before = h.before; clients = h.clients ++ h.client ∷ []; is = h.is })
+in_client s n forms says.Client e is h =
+    add_client s n forms is (record { before = h.before; clients = h.clients ++ h.client ∷ []; is = h.is })
 in_client s n forms says.Phase e is h = add_phase s n forms is
 in_client s n forms (says.Command act) e is h = add_command s n act forms is h
 in_client s n forms says.End e is h = push forms (body s) says.End is
 in_client s n forms form e is h = absurd cc
 
-built_more : (last : LineWord) (s : Script) (n : ℕ) (forms : List Form) (form : Form) → may_follow last (first_word form) ≡ true → Built (Some last) s forms → Built (Some (first_word form)) (with_form s n form) (forms ++ form ∷ [])
+built_more : (last : LineWord) (s : Script) (n : ℕ) (forms : List Form) (form : Form)
+    → may_follow last (first_word form) ≡ true → Built (Some last) s forms
+    → Built (Some (first_word form)) (with_form s n form) (forms ++ form ∷ [])
 unfolding may_follow Built
-built_more word.Morph s n forms (says.Servers x) e h = (push forms _ (says.Servers x) h.0, record { families = h.1.families; files = h.1.files; items = h.1.items })
-built_more word.Servers s n forms (says.Chunk x) e h = (push forms _ (says.Chunk x) h.0, record { families = h.1.families; files = h.1.files; items = h.1.items })
+built_more word.Morph s n forms (says.Servers x) e h =
+    (push forms _ (says.Servers x) h.0, record { families = h.1.families; files = h.1.files; items = h.1.items })
+built_more word.Servers s n forms (says.Chunk x) e h =
+    (push forms _ (says.Chunk x) h.0, record { families = h.1.families; files = h.1.files; items = h.1.items })
 built_more word.Chunk s n forms (says.Points x) e h = add_points s forms n x h.0 h.1
 built_more word.Points s n forms (says.Stage stage) e h = add_stage s forms n stage h.0 h.1
 built_more word.Stage s n forms (says.Stage stage) e h = add_stage s forms n stage h.0 h.1
@@ -205,26 +246,34 @@ built_more word.Client s n forms form e h = in_client s n forms form e h.0 h.1
 built_more (word.Command verb) s n forms form e h = in_client s n forms form e h.0 h.1
 built_more last s n forms form e h = absurd cc
 
-built_line : (so : SoFar) (line : List ℕ) (form : Form) (before : List Form) → LineIs so line form → Built so.last so.script before → Built (Some (first_word form)) (with_form so.script (so.lines + 1) form) (before ++ form ∷ [])
+built_line : (so : SoFar) (line : List ℕ) (form : Form) (before : List Form) → LineIs so line form
+    → Built so.last so.script before
+    → Built (Some (first_word form)) (with_form so.script (so.lines + 1) form) (before ++ form ∷ [])
 unfolding Built
 built_line so line form before is h =
     elim is.place [
       | inl first ↦
           let start = subst (λ l. Built l so.script before) first.0 h in
-          subst (λ f. Built (Some (first_word f)) (with_form so.script (so.lines + 1) f) (before ++ f ∷ [])) (sym first.1) (push before [] says.Morph start.0, start.1)
-      | inr (last, was, follows) ↦ built_more last so.script (so.lines + 1) before form follows (subst (λ l. Built l so.script before) was h)
+          subst (λ f. Built (Some (first_word f)) (with_form so.script (so.lines + 1) f) (before ++ f ∷ []))
+          (sym first.1) (push before [] says.Morph start.0, start.1)
+      | inr (last, was, follows) ↦ built_more last so.script (so.lines + 1) before form follows
+          (subst (λ l. Built l so.script before) was h)
     ]
 
-built_lines : (so : SoFar) (lines : List (List ℕ)) (forms before : List Form) → MakeForms so lines forms → Built so.last so.script before → Built (so_with so forms).last (so_with so forms).script (before ++ forms)
+built_lines : (so : SoFar) (lines : List (List ℕ)) (forms before : List Form) → MakeForms so lines forms
+    → Built so.last so.script before → Built (so_with so forms).last (so_with so forms).script (before ++ forms)
 built_lines so [] [] before made h = subst (Built so.last so.script) (sym (append-nil before)) h
 built_lines so [] (form ∷ forms) before made h = absurd made
 built_lines so (line ∷ lines) [] before made h = absurd made
 built_lines so (line ∷ lines) (form ∷ forms) before made h =
-    subst (Built (so_with (with_line so form) forms).last (so_with (with_line so form) forms).script) (append_assoc before (form ∷ []) forms)
-    (built_lines (with_line so form) lines forms (before ++ form ∷ []) made.1 (built_line so line form before (line_is so line form made.0) h))
+    subst (Built (so_with (with_line so form) forms).last (so_with (with_line so form) forms).script)
+    (append_assoc before (form ∷ []) forms)
+    (built_lines (with_line so form) lines forms (before ++ form ∷ []) made.1
+    (built_line so line form before (line_is so line form made.0) h))
 
 -- a script that was read has the forms that it was read from
 pub forms_are : (text : List ℕ) (forms : List Form) → HasForms text forms → script_forms (so_of forms).script ≡ forms
 unfolding Built body filed script_forms so_of
 forms_are text forms has =
-    sym (subst (λ l. Built l (so_of forms).script forms) has.ended (built_lines so_before _ forms [] has.lines (refl, record { families = refl; files = refl; items = refl })))
+    sym (subst (λ l. Built l (so_of forms).script forms) has.ended
+    (built_lines so_before _ forms [] has.lines (refl, record { families = refl; files = refl; items = refl })))

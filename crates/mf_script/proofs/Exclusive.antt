@@ -1,5 +1,6 @@
 -- A text has one answer: one script, or one fault.
-use Rattle.std.proofs.Common.{◌≡◌, ◌≢◌, ℕ, zero, suc, ◌+◌, ◌-◌, ◌<◌, ◌≤◌, ◌^◌, min, List, [], ◌∷◌, get_or, length, Some, Ok, Err, refl, sym, ap, ◌∙◌, subst, arith, inl, inr, ◌⊎◌, length-take-le}
+use Rattle.std.proofs.Common.{◌≡◌, ◌≢◌, ℕ, zero, suc, ◌+◌, ◌-◌, ◌<◌, ◌≤◌, ◌^◌, min, List, [], ◌∷◌, get_or, length}
+use Rattle.std.proofs.Common.{Some, Ok, Err, refl, sym, ap, ◌∙◌, subst, arith, inl, inr, ◌⊎◌, length-take-le}
 use Rattle.std.proofs.lemmas.Bool.{cases_lt}
 use Rattle.std.proofs.Math.Nat.{eq-or-lt_of_le}
 use Rattle.mf_shape.specs.declared.Stage.{Stage}
@@ -42,12 +43,14 @@ no_line_fault text forms n k a h =
 
 -- ---- no fault of the stages comes at a shape, and none of the points at a family
 
-step_to : (stages : List Stage) (g : ℕ) → IsChain stages → g < length stages → 0 < g → IsStep (stage_at stages (g - 1)) (stage_at stages g)
+step_to : (stages : List Stage) (g : ℕ) → IsChain stages → g < length stages → 0 < g
+    → IsStep (stage_at stages (g - 1)) (stage_at stages g)
 step_to stages g chain lt some =
     let next : g - 1 + 1 ≡ g = omega arith in
     subst (λ h. IsStep (stage_at stages (g - 1)) (stage_at stages h)) next (chain.steps (g - 1) (omega arith))
 
-no_shape_fault : (s : Chain) (fault : ShapeFault) → IsShape s → fault ≢ shape.Memory → Comes s.stages s.servers fault → ⊥
+no_shape_fault : (s : Chain) (fault : ShapeFault) → IsShape s → fault ≢ shape.Memory → Comes s.stages s.servers fault
+    → ⊥
 no_shape_fault s shape.NoStage is other h = let some = is.chain.some in omega arith
 no_shape_fault s shape.TooManyStages is other h = let few = is.chain.few in omega arith
 no_shape_fault s (shape.Width g) is other h = h.1 (is.chain.widths g h.0)
@@ -61,17 +64,22 @@ no_shape_fault s shape.CopiesDontFit is other h = h is.copies
 no_shape_fault s (shape.Servers n) is other h = h.1 is.servers
 no_shape_fault s shape.Memory is other h = other refl
 
-stage_size : (stages : List Stage) (points : List ℕ) (g : ℕ) → IsChain stages → g < length stages → length points ≡ parities_at stages 0 → length (stage_points stages points g) ≡ parities_at stages g
+stage_size : (stages : List Stage) (points : List ℕ) (g : ℕ) → IsChain stages → g < length stages
+    → length points ≡ parities_at stages 0 → length (stage_points stages points g) ≡ parities_at stages g
 stage_size stages points g chain lt count =
     let few : parities_at stages g ≤ parities_at stages 0 = parities_le stages chain g lt in
     length-take-le (parities_at stages g) points (omega arith)
 
-set_decodable : (stages : List Stage) (points : List ℕ) (g : ℕ) (places kernel : List ℕ) → IsChain stages → length points ≡ parities_at stages 0 → IsStageDecodable stages points g → IsUndecodable stages points g places kernel → ⊥
+set_decodable : (stages : List Stage) (points : List ℕ) (g : ℕ) (places kernel : List ℕ) → IsChain stages
+    → length points ≡ parities_at stages 0 → IsStageDecodable stages points g
+    → IsUndecodable stages points g places kernel → ⊥
 set_decodable stages points g places kernel chain count decodable h =
-    let long : length (stage_points stages points g) ≡ parities_at stages g = stage_size stages points g chain h.stage count in
+    let long : length (stage_points stages points g) ≡ parities_at stages g =
+    stage_size stages points g chain h.stage count in
     h.undecodable (decodable.each places (rw long h.set))
 
-no_family_fault : (stages : List Stage) (points : List ℕ) (fault : FamilyFault) → IsChain stages → IsFamily stages points → fault ≢ family.Memory → IsFamilyFaultOf stages points fault → ⊥
+no_family_fault : (stages : List Stage) (points : List ℕ) (fault : FamilyFault) → IsChain stages
+    → IsFamily stages points → fault ≢ family.Memory → IsFamilyFaultOf stages points fault → ⊥
 no_family_fault stages points (family.PointCount n) chain is other h = h.0 is.points_ok.len
 no_family_fault stages points (family.PointZero i) chain is other h =
     let within = h.1.within in
@@ -79,7 +87,8 @@ no_family_fault stages points (family.PointZero i) chain is other h =
 no_family_fault stages points (family.PointTwice i j) chain is other h =
     let within = h.2.within in
     is.points_ok.distinct i j h.2.ordered (omega (arith, h.0)) h.2.equal
-no_family_fault stages points (family.Undecodable g places kernel) chain is other h = set_decodable stages points g places kernel chain is.points_ok.len (is.decodable g h.1.stage) h.1
+no_family_fault stages points (family.Undecodable g places kernel) chain is other h =
+    set_decodable stages points g places kernel chain is.points_ok.len (is.decodable g h.1.stage) h.1
 no_family_fault stages points family.Memory chain is other h = other refl
 
 -- ---- a text with a fault is no script
@@ -98,9 +107,11 @@ fault_is_no_script text n k (inr (inl h)) s is =
 fault_is_no_script text n k (inr (inr h)) s is =
     let same = so_same text is.forms h.forms is.lines h.lines in
     let code = subst (λ (x : SoFar). IsCode (main_code x.script)) same (main_kept text s is) in
-    no_family_fault (main_of (so_of h.forms).script).stages (main_of (so_of h.forms).script).points h.fault code.shape_ok.chain code.family h.not_memory h.first
+    no_family_fault (main_of (so_of h.forms).script).stages
+    (main_of (so_of h.forms).script).points h.fault code.shape_ok.chain code.family h.not_memory h.first
 
-pub told_is_no_script : (text : List ℕ) (n : ℕ) (k : Kind) → (k ≡ kind.Memory) ⊎ IsFault text n k → k ≢ kind.Memory → (s : Script) → IsScript text s → ⊥
+pub told_is_no_script : (text : List ℕ) (n : ℕ) (k : Kind) → (k ≡ kind.Memory) ⊎ IsFault text n k → k ≢ kind.Memory
+    → (s : Script) → IsScript text s → ⊥
 told_is_no_script text n k (inl memory) other s is = absurd (other memory)
 told_is_no_script text n k (inr fault) other s is = fault_is_no_script text n k fault s is
 
@@ -109,14 +120,17 @@ told_is_no_script text n k (inr fault) other s is = fault_is_no_script text n k 
 -- the fault of a kind's place that names this number
 fault_at : ℕ → ℕ → ShapeFault
 fault_at k n =
-    get_or (shape.NoStage ∷ shape.TooManyStages ∷ shape.Width n ∷ shape.Parities n ∷ shape.Copies n ∷ shape.NotMultiple n ∷ shape.ParitiesGrow n ∷ shape.CopiesGrow n ∷ shape.ParitiesOverWidth n ∷ shape.CopiesDontFit ∷ shape.Servers n ∷ []) k shape.Memory
+    get_or (shape.NoStage ∷ shape.TooManyStages ∷ shape.Width n ∷ shape.Parities n ∷ shape.Copies n
+    ∷ shape.NotMultiple n ∷ shape.ParitiesGrow n ∷ shape.CopiesGrow n ∷ shape.ParitiesOverWidth n
+    ∷ shape.CopiesDontFit ∷ shape.Servers n ∷ []) k shape.Memory
 
 fault_is : (f : ShapeFault) → fault_at (shapes.rank_of f) (shapes.said_by f) ≡ f
 unfolding fault_at
 fault_is shape.NoStage = refl
 fault_is f = refl
 
-one_shape_fault : (stages : List Stage) (servers : ℕ) (f g : ShapeFault) → shapes.IsFirst stages servers f → shapes.IsFirst stages servers g → f ≡ g
+one_shape_fault : (stages : List Stage) (servers : ℕ) (f g : ShapeFault) → shapes.IsFirst stages servers f
+    → shapes.IsFirst stages servers g → f ≡ g
 one_shape_fault stages servers f g a b =
     elim (cases_lt (shapes.rank_of f) (shapes.rank_of g)) [
       | inl lt ↦ absurd (b.none_before f (inl lt) a.comes)
@@ -177,13 +191,16 @@ compared (x ∷ s) (y ∷ t) e =
         | inr lt ↦ inr (inr (0, omega arith, (λ i low. absurd (omega arith)), lt))
         | inl same ↦ elim (compared s t (omega arith)) [
           | inl rest ↦ inl (λ i. sym same i ∷ rest i)
-          | inr (inl first) ↦ inr (inl (subst (λ z. sets.IsBefore (x ∷ s) (z ∷ t)) (sym same) (before_cons x s t first)))
-          | inr (inr second) ↦ inr (inr (subst (λ z. sets.IsBefore (z ∷ t) (x ∷ s)) (sym same) (before_cons x t s second)))
+          | inr (inl first) ↦
+              inr (inl (subst (λ z. sets.IsBefore (x ∷ s) (z ∷ t)) (sym same) (before_cons x s t first)))
+          | inr (inr second) ↦
+              inr (inr (subst (λ z. sets.IsBefore (z ∷ t) (x ∷ s)) (sym same) (before_cons x t s second)))
         ]
       ]
     ]
 
-one_set : (stages : List Stage) (points : List ℕ) (g : ℕ) (p q kernel other : List ℕ) → IsUndecodable stages points g p kernel → IsUndecodable stages points g q other → p ≡ q
+one_set : (stages : List Stage) (points : List ℕ) (g : ℕ) (p q kernel other : List ℕ)
+    → IsUndecodable stages points g p kernel → IsUndecodable stages points g q other → p ≡ q
 one_set stages points g p q kernel other a b =
     elim (compared p q (a.set.len ∙ sym b.set.len)) [
       | inl same ↦ same
@@ -191,34 +208,54 @@ one_set stages points g p q kernel other a b =
       | inr (inr second) ↦ absurd (b.undecodable (a.first q b.set second))
     ]
 
-one_undecodable : (stages : List Stage) (points : List ℕ) (g h : ℕ) (p q kernel other : List ℕ) → IsChain stages → length points ≡ parities_at stages 0 → IsUndecodable stages points g p kernel → IsUndecodable stages points h q other
+one_undecodable : (stages : List Stage) (points : List ℕ) (g h : ℕ) (p q kernel other : List ℕ) → IsChain stages
+    → length points ≡ parities_at stages 0 → IsUndecodable stages points g p kernel
+    → IsUndecodable stages points h q other
     → bare (kind.Family (family.Undecodable g p kernel)) ≡ bare (kind.Family (family.Undecodable h q other))
 one_undecodable stages points g h p q kernel other chain count a b =
     let stage : g ≡ h = elim (cases_lt g h) [
       | inl lt ↦ absurd (set_decodable stages points g p kernel chain count (b.before g lt) a)
-      | inr le ↦ elim (eq-or-lt_of_le le) [ inl same ↦ sym same | inr lt ↦ absurd (set_decodable stages points h q other chain count (a.before h lt) b) ]
+      | inr le ↦
+          elim (eq-or-lt_of_le le) [
+            | inl same ↦ sym same
+            | inr lt ↦
+                absurd (set_decodable stages points h q other chain count (a.before h lt) b)
+          ]
     ] in
     let there = subst (λ x. IsUndecodable stages points x q other) (sym stage) b in
     let places : p ≡ q = one_set stages points g p q kernel other a there in
     (λ i. kind.Family (family.Undecodable (stage i) (places i) []))
 
-one_family_fault : (stages : List Stage) (points : List ℕ) (f g : FamilyFault) → IsChain stages → f ≢ family.Memory → g ≢ family.Memory → IsFamilyFaultOf stages points f → IsFamilyFaultOf stages points g → bare (kind.Family f) ≡ bare (kind.Family g)
-one_family_fault stages points (family.PointCount m) (family.PointCount n) chain f g a b = ap (λ n. kind.Family (family.PointCount n)) (a.1 ∙ sym b.1)
+one_family_fault : (stages : List Stage) (points : List ℕ) (f g : FamilyFault) → IsChain stages → f ≢ family.Memory
+    → g ≢ family.Memory → IsFamilyFaultOf stages points f → IsFamilyFaultOf stages points g
+    → bare (kind.Family f) ≡ bare (kind.Family g)
+one_family_fault stages points (family.PointCount m) (family.PointCount n) chain f g a b =
+    ap (λ n. kind.Family (family.PointCount n)) (a.1 ∙ sym b.1)
 one_family_fault stages points (family.PointCount m) (family.PointZero i) chain f g a b = absurd (a.0 b.0)
 one_family_fault stages points (family.PointCount m) (family.PointTwice i j) chain f g a b = absurd (a.0 b.0)
 one_family_fault stages points (family.PointCount m) (family.Undecodable h q other) chain f g a b = absurd (a.0 b.0.len)
 one_family_fault stages points (family.PointZero i) (family.PointCount n) chain f g a b = absurd (b.0 a.0)
-one_family_fault stages points (family.PointZero i) (family.PointZero j) chain f g a b = ap (λ n. kind.Family (family.PointZero n)) (one_least (λ k. get_or points k 0 ≡ 0) i j a.1.zero_here b.1.zero_here a.1.none_before b.1.none_before)
-one_family_fault stages points (family.PointZero i) (family.PointTwice k j) chain f g a b = absurd (let within = a.1.within in b.1 i (omega (arith, a.0)) a.1.zero_here)
-one_family_fault stages points (family.PointZero i) (family.Undecodable h q other) chain f g a b = absurd (let within = a.1.within in b.0.nonzero i (omega (arith, a.0)) a.1.zero_here)
+one_family_fault stages points (family.PointZero i) (family.PointZero j) chain f g a b =
+    ap (λ n. kind.Family (family.PointZero n))
+    (one_least (λ k. get_or points k 0 ≡ 0) i j a.1.zero_here b.1.zero_here a.1.none_before b.1.none_before)
+one_family_fault stages points (family.PointZero i) (family.PointTwice k j) chain f g a b =
+    absurd (let within = a.1.within in b.1 i (omega (arith, a.0)) a.1.zero_here)
+one_family_fault stages points (family.PointZero i) (family.Undecodable h q other) chain f g a b =
+    absurd (let within = a.1.within in b.0.nonzero i (omega (arith, a.0)) a.1.zero_here)
 one_family_fault stages points (family.PointTwice i j) (family.PointCount n) chain f g a b = absurd (b.0 a.0)
-one_family_fault stages points (family.PointTwice i j) (family.PointZero k) chain f g a b = absurd (let within = b.1.within in a.1 k (omega (arith, b.0)) b.1.zero_here)
-one_family_fault stages points (family.PointTwice i j) (family.PointTwice k l) chain f g a b = let same = one_pair points i j k l a.2 b.2 in (λ x. kind.Family (family.PointTwice (same.0 x) (same.1 x)))
-one_family_fault stages points (family.PointTwice i j) (family.Undecodable h q other) chain f g a b = absurd (let within = a.2.within in b.0.distinct i j a.2.ordered (omega (arith, a.0)) a.2.equal)
+one_family_fault stages points (family.PointTwice i j) (family.PointZero k) chain f g a b =
+    absurd (let within = b.1.within in a.1 k (omega (arith, b.0)) b.1.zero_here)
+one_family_fault stages points (family.PointTwice i j) (family.PointTwice k l) chain f g a b =
+    let same = one_pair points i j k l a.2 b.2 in (λ x. kind.Family (family.PointTwice (same.0 x) (same.1 x)))
+one_family_fault stages points (family.PointTwice i j) (family.Undecodable h q other) chain f g a b =
+    absurd (let within = a.2.within in b.0.distinct i j a.2.ordered (omega (arith, a.0)) a.2.equal)
 one_family_fault stages points (family.Undecodable h q other) (family.PointCount n) chain f g a b = absurd (b.0 a.0.len)
-one_family_fault stages points (family.Undecodable h q other) (family.PointZero k) chain f g a b = absurd (let within = b.1.within in a.0.nonzero k (omega (arith, b.0)) b.1.zero_here)
-one_family_fault stages points (family.Undecodable h q other) (family.PointTwice i j) chain f g a b = absurd (let within = b.2.within in a.0.distinct i j b.2.ordered (omega (arith, b.0)) b.2.equal)
-one_family_fault stages points (family.Undecodable h p kernel) (family.Undecodable k q other) chain f g a b = one_undecodable stages points h k p q kernel other chain a.0.len a.1 b.1
+one_family_fault stages points (family.Undecodable h q other) (family.PointZero k) chain f g a b =
+    absurd (let within = b.1.within in a.0.nonzero k (omega (arith, b.0)) b.1.zero_here)
+one_family_fault stages points (family.Undecodable h q other) (family.PointTwice i j) chain f g a b =
+    absurd (let within = b.2.within in a.0.distinct i j b.2.ordered (omega (arith, b.0)) b.2.equal)
+one_family_fault stages points (family.Undecodable h p kernel) (family.Undecodable k q other) chain f g a b =
+    one_undecodable stages points h k p q kernel other chain a.0.len a.1 b.1
 one_family_fault stages points family.Memory y chain f g a b = absurd (f refl)
 one_family_fault stages points x family.Memory chain f g a b = absurd (g refl)
 
@@ -235,7 +272,9 @@ one_fault text m n j k (inr (inr a)) (inl b) = absurd (no_line_fault text a.form
 one_fault text m n j k (inr (inl a)) (inr (inl b)) =
     let so = so_same text a.forms b.forms a.lines b.lines in
     let first = subst (λ (x : SoFar). shapes.IsFirst (main_of x.script).stages x.script.servers a.fault) so a.first in
-    let fault = one_shape_fault (main_of (so_of b.forms).script).stages (so_of b.forms).script.servers a.fault b.fault first b.first in
+    let fault =
+    one_shape_fault (main_of (so_of b.forms).script).stages
+    (so_of b.forms).script.servers a.fault b.fault first b.first in
     (a.line ∙ ap (λ (x : SoFar). x.stage_line) so ∙ sym b.line, ap bare (a.is ∙ ap kind.Shape fault ∙ sym b.is))
 one_fault text m n j k (inr (inl a)) (inr (inr b)) =
     let so = so_same text a.forms b.forms a.lines b.lines in
@@ -247,13 +286,18 @@ one_fault text m n j k (inr (inr a)) (inr (inl b)) =
     absurd (no_shape_fault (main_code (so_of a.forms).script).shape b.fault a.shape_ok b.not_memory comes)
 one_fault text m n j k (inr (inr a)) (inr (inr b)) =
     let so = so_same text a.forms b.forms a.lines b.lines in
-    let first = subst (λ (x : SoFar). IsFamilyFaultOf (main_of x.script).stages (main_of x.script).points a.fault) so a.first in
-    let fault = one_family_fault (main_of (so_of b.forms).script).stages (main_of (so_of b.forms).script).points a.fault b.fault b.shape_ok.chain a.not_memory b.not_memory first b.first in
+    let first =
+    subst (λ (x : SoFar). IsFamilyFaultOf (main_of x.script).stages (main_of x.script).points a.fault) so a.first in
+    let fault =
+    one_family_fault (main_of (so_of b.forms).script).stages
+    (main_of (so_of b.forms).script).points a.fault b.fault b.shape_ok.chain a.not_memory b.not_memory first
+    b.first in
     (a.line ∙ ap (λ (x : SoFar). x.stage_line) so ∙ sym b.line, ap bare a.is ∙ fault ∙ ap bare (sym b.is))
 
 pub one_answer : OneAnswer
 one_answer = record {
-  script = λ text s t a b. a.says ∙ ap (λ (x : SoFar). x.script) (so_same text a.forms b.forms a.lines b.lines) ∙ sym b.says;
+  script = λ text s t a b. a.says ∙ ap (λ (x : SoFar). x.script) (so_same text a.forms b.forms a.lines b.lines)
+      ∙ sym b.says;
   fault = one_fault;
   either = λ text s n k is fault. fault_is_no_script text n k fault s is;
 }

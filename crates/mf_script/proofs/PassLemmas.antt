@@ -1,5 +1,6 @@
 -- One pass over the lines finds what they add up to, or the first fault, and no other.
-use Rattle.std.proofs.Common.{◌≡◌, ℕ, ◌+◌, ◌<◌, ◌≤◌, List, [], ◌∷◌, ◌++◌, length, Option, Some, None, Result, Ok, Err, ltb, refl, sym, ap, ◌∙◌, subst, arith, inl, inr, ◌⊎◌}
+use Rattle.std.proofs.Common.{◌≡◌, ℕ, ◌+◌, ◌<◌, ◌≤◌, List, [], ◌∷◌, ◌++◌, length, Option, Some, None, Result, Ok, Err}
+use Rattle.std.proofs.Common.{ltb, refl, sym, ap, ◌∙◌, subst, arith, inl, inr, ◌⊎◌}
 use Rattle.std.proofs.lemmas.Bool.{cases_Bool, cond-true, cond-false, ltb-true, ltb-false, lt-ltb, le-ltb}
 use Rattle.mf_text.specs.Lines.{lines_of}
 use Rattle.mf_lines.specs.declared.words.LineWord.{LineWord}
@@ -34,17 +35,20 @@ abbrev pub kind_in : Result SoFar ScriptFault → Kind
 kind_in (Ok so) = kind.Memory
 kind_in (Err fault) = fault.kind
 
-ended_err : (so : SoFar) (o : Option Kind) (n : ℕ) (k : Kind) → ended so o ≡ Err (record { line = n; kind = k }) → (o ≡ Some k) × (n ≡ so.lines + 1)
+ended_err : (so : SoFar) (o : Option Kind) (n : ℕ) (k : Kind) → ended so o ≡ Err (record { line = n; kind = k })
+    → (o ≡ Some k) × (n ≡ so.lines + 1)
 ended_err so None n k e = absurd cc
 ended_err so (Some j) n k e = (ap Some (ap kind_in e), sym (ap line_in e))
 
 -- ---- one line
 
-pub read_more : (so : SoFar) (line : List ℕ) (lines : List (List ℕ)) (form : Form) → form_at so line ≡ Ok form → read_lines so (line ∷ lines) ≡ read_lines (with_line so form) lines
+pub read_more : (so : SoFar) (line : List ℕ) (lines : List (List ℕ)) (form : Form) → form_at so line ≡ Ok form
+    → read_lines so (line ∷ lines) ≡ read_lines (with_line so form) lines
 unfolding read_lines
 read_more so line lines form e = ap (λ r. after so r (λ f. read_lines (with_line so f) lines)) e
 
-pub read_refused : (so : SoFar) (line : List ℕ) (lines : List (List ℕ)) (k : Kind) → form_at so line ≡ Err k → read_lines so (line ∷ lines) ≡ Err (record { line = so.lines + 1; kind = k })
+pub read_refused : (so : SoFar) (line : List ℕ) (lines : List (List ℕ)) (k : Kind) → form_at so line ≡ Err k
+    → read_lines so (line ∷ lines) ≡ Err (record { line = so.lines + 1; kind = k })
 unfolding read_lines
 read_refused so line lines k e = ap (λ r. after so r (λ f. read_lines (with_line so f) lines)) e
 
@@ -64,10 +68,17 @@ passed : (so : SoFar) (lines : List (List ℕ)) (all : SoFar) → read_lines so 
 unfolding read_lines
 passed so [] all e =
     let done = ended_ok so all (end_fault so.last) e in
-    record { forms = []; made = tt; is = sym done.1; last = subst (λ (x : SoFar). x.last ≡ Some word.End) done.1 (ends so.last done.0) }
+    record {
+      forms =
+          [];
+      made = tt;
+      is = sym done.1;
+      last = subst (λ (x : SoFar). x.last ≡ Some word.End) done.1 (ends so.last done.0);
+    }
 passed so (line ∷ lines) all e = go (form_at so line) refl e (λ form. passed (with_line so form) lines all)
   where
-    go : (r : Result Form Kind) → form_at so line ≡ r → after so r (λ form. read_lines (with_line so form) lines) ≡ Ok all
+    go : (r : Result Form Kind) → form_at so line ≡ r
+        → after so r (λ form. read_lines (with_line so form) lines) ≡ Ok all
         → ((form : Form) → read_lines (with_line so form) lines ≡ Ok all → Passed (with_line so form) lines all)
         → Passed so (line ∷ lines) all
     go (Ok form) at x more =
@@ -75,11 +86,13 @@ passed so (line ∷ lines) all e = go (form_at so line) refl e (λ form. passed 
         record { forms = form ∷ rest.forms; made = (at, rest.made); is = rest.is; last = rest.last }
     go (Err k) at x more = absurd cc
 
-have_passed : (so : SoFar) (lines : List (List ℕ)) (forms : List Form) → MakeForms so lines forms → (so_with so forms).last ≡ Some word.End → read_lines so lines ≡ Ok (so_with so forms)
+have_passed : (so : SoFar) (lines : List (List ℕ)) (forms : List Form) → MakeForms so lines forms
+    → (so_with so forms).last ≡ Some word.End → read_lines so lines ≡ Ok (so_with so forms)
 have_passed so [] [] h end = read_end so None (ap end_fault end)
 have_passed so [] (form ∷ forms) h end = absurd h
 have_passed so (line ∷ lines) [] h end = absurd h
-have_passed so (line ∷ lines) (form ∷ forms) h end = read_more so line lines form h.0 ∙ have_passed (with_line so form) lines forms h.1 end
+have_passed so (line ∷ lines) (form ∷ forms) h end =
+    read_more so line lines form h.0 ∙ have_passed (with_line so form) lines forms h.1 end
 
 -- ---- the first fault
 
@@ -99,15 +112,18 @@ record EndFrom (so : SoFar) (lines : List (List ℕ)) (n : ℕ) (k : Kind) : Typ
   read : MakeForms so lines forms
   is : end_fault (so_with so forms).last ≡ Some k
 
-fault_from : (so : SoFar) (lines : List (List ℕ)) (n : ℕ) (k : Kind) → read_lines so lines ≡ Err (record { line = n; kind = k }) → FirstFrom so lines n k ⊎ EndFrom so lines n k
+fault_from : (so : SoFar) (lines : List (List ℕ)) (n : ℕ) (k : Kind)
+    → read_lines so lines ≡ Err (record { line = n; kind = k }) → FirstFrom so lines n k ⊎ EndFrom so lines n k
 unfolding read_lines
 fault_from so [] n k e =
     let done = ended_err so (end_fault so.last) n k e in
     inr (record { forms = []; number = omega (arith, done.1); read = tt; is = done.0 })
 fault_from so (line ∷ lines) n k e = go (form_at so line) refl e (λ form. fault_from (with_line so form) lines n k)
   where
-    go : (r : Result Form Kind) → form_at so line ≡ r → after so r (λ form. read_lines (with_line so form) lines) ≡ Err (record { line = n; kind = k })
-        → ((form : Form) → read_lines (with_line so form) lines ≡ Err (record { line = n; kind = k }) → FirstFrom (with_line so form) lines n k ⊎ EndFrom (with_line so form) lines n k)
+    go : (r : Result Form Kind) → form_at so line ≡ r
+        → after so r (λ form. read_lines (with_line so form) lines) ≡ Err (record { line = n; kind = k })
+        → ((form : Form) → read_lines (with_line so form) lines ≡ Err (record { line = n; kind = k })
+        → FirstFrom (with_line so form) lines n k ⊎ EndFrom (with_line so form) lines n k)
         → FirstFrom so (line ∷ lines) n k ⊎ EndFrom so (line ∷ lines) n k
     go (Ok form) at x more =
         elim (more form x) [
@@ -121,14 +137,28 @@ fault_from so (line ∷ lines) n k e = go (form_at so line) refl e (λ form. fau
             read = (at, h.read);
             is = h.is;
           })
-          | inr h ↦ inr (record { forms = form ∷ h.forms; number = omega (arith, h.number); read = (at, h.read); is = h.is })
+          | inr h ↦
+              inr (record { forms = form ∷ h.forms; number = omega (arith, h.number); read = (at, h.read); is = h.is })
         ]
     go (Err j) at x more =
         let number : so.lines + 1 ≡ n = ap line_in x in
         let same : j ≡ k = ap kind_in x in
-        inl (record { done = []; line = line; behind = lines; forms = []; split = refl; number = omega (arith, number); read = tt; is = at ∙ ap Err same })
+        inl (record {
+          done =
+              [];
+          line =
+              line;
+          behind =
+              lines;
+          forms = [];
+          split = refl;
+          number = omega (arith, number);
+          read = tt;
+          is = at ∙ ap Err same;
+        })
 
-first_found : (so : SoFar) (done : List (List ℕ)) (line : List ℕ) (behind : List (List ℕ)) (forms : List Form) (n : ℕ) (k : Kind)
+first_found : (so : SoFar) (done : List (List ℕ)) (line : List ℕ) (behind : List (List ℕ)) (forms : List Form) (n : ℕ)
+    (k : Kind)
     → MakeForms so done forms → form_at (so_with so forms) line ≡ Err k → n ≡ so.lines + length done + 1
     → read_lines so (done ++ line ∷ behind) ≡ Err (record { line = n; kind = k })
 first_found so [] line behind [] n k h is number =
@@ -137,7 +167,8 @@ first_found so [] line behind [] n k h is number =
 first_found so [] line behind (form ∷ forms) n k h is number = absurd h
 first_found so (d ∷ done) line behind [] n k h is number = absurd h
 first_found so (d ∷ done) line behind (form ∷ forms) n k h is number =
-    read_more so d (done ++ line ∷ behind) form h.0 ∙ first_found (with_line so form) done line behind forms n k h.1 is (omega arith)
+    read_more so d (done ++ line ∷ behind) form h.0
+    ∙ first_found (with_line so form) done line behind forms n k h.1 is (omega arith)
 
 end_found : (so : SoFar) (lines : List (List ℕ)) (forms : List Form) (n : ℕ) (k : Kind)
     → MakeForms so lines forms → end_fault (so_with so forms).last ≡ Some k → n ≡ so.lines + length lines + 1
@@ -166,7 +197,13 @@ so_read text so e =
           let have = passed so_before (lines_of text) so (sym (cond-false _ _ _ fails) ∙ e) in
           record {
             forms = have.forms;
-            lines = record { short = ltb-false 1048576 (length text) fails; lines = have.made; ended = ap (λ (x : SoFar). x.last) (sym have.is) ∙ have.last };
+            lines = record {
+              short =
+                  ltb-false 1048576 (length text) fails;
+              lines =
+                  have.made;
+              ended = ap (λ (x : SoFar). x.last) (sym have.is) ∙ have.last;
+            };
             is = have.is;
           }
     ]
@@ -175,9 +212,11 @@ pub read_text-have : (text : List ℕ) (forms : List Form) → HasForms text for
 unfolding read_text so_of
 read_text-have text forms h =
     let short = h.short in
-    cond-false _ _ _ (le-ltb 1048576 (length text) (omega arith)) ∙ have_passed so_before (lines_of text) forms h.lines h.ended
+    cond-false _ _ _ (le-ltb 1048576 (length text) (omega arith))
+    ∙ have_passed so_before (lines_of text) forms h.lines h.ended
 
-pub fault_read : (text : List ℕ) (n : ℕ) (k : Kind) → read_text text ≡ Err (record { line = n; kind = k }) → IsLineFault text n k
+pub fault_read : (text : List ℕ) (n : ℕ) (k : Kind) → read_text text ≡ Err (record { line = n; kind = k })
+    → IsLineFault text n k
 unfolding read_text so_of
 fault_read text n k e =
     elim (cases_Bool (ltb 1048576 (length text))) [
@@ -190,19 +229,36 @@ fault_read text n k e =
           inr (
             ltb-false 1048576 (length text) fails,
             elim (fault_from so_before (lines_of text) n k (sym (cond-false _ _ _ fails) ∙ e)) [
-              | inl h ↦ inl (record { before = h.done; line = h.line; after = h.behind; forms = h.forms; split = h.split; number = omega (arith, h.number); read = h.read; is = h.is })
+              | inl h ↦
+                  inl (record {
+                    before =
+                        h.done;
+                    line =
+                        h.line;
+                    after =
+                        h.behind;
+                    forms =
+                        h.forms;
+                    split = h.split;
+                    number = omega (arith, h.number);
+                    read = h.read;
+                    is = h.is;
+                  })
               | inr h ↦ inr (record { forms = h.forms; number = omega (arith, h.number); read = h.read; is = h.is })
             ],
           )
     ]
 
-pub read_text-fault : (text : List ℕ) (n : ℕ) (k : Kind) → IsLineFault text n k → read_text text ≡ Err (record { line = n; kind = k })
+pub read_text-fault : (text : List ℕ) (n : ℕ) (k : Kind) → IsLineFault text n k
+    → read_text text ≡ Err (record { line = n; kind = k })
 unfolding read_text so_of
 read_text-fault text n k (inl h) =
-    cond-true _ _ _ (lt-ltb 1048576 (length text) h.long) ∙ (λ i. Err (record { line = sym h.number i; kind = sym h.is i }))
+    cond-true _ _ _ (lt-ltb 1048576 (length text) h.long)
+    ∙ (λ i. Err (record { line = sym h.number i; kind = sym h.is i }))
 read_text-fault text n k (inr (short, inl h)) =
     cond-false _ _ _ (le-ltb 1048576 (length text) short)
     ∙ ap (read_lines so_before) h.split
     ∙ first_found so_before h.before h.line h.after h.forms n k h.read h.is (omega (arith, h.number))
 read_text-fault text n k (inr (short, inr h)) =
-    cond-false _ _ _ (le-ltb 1048576 (length text) short) ∙ end_found so_before (lines_of text) h.forms n k h.read h.is (omega (arith, h.number))
+    cond-false _ _ _ (le-ltb 1048576 (length text) short)
+    ∙ end_found so_before (lines_of text) h.forms n k h.read h.is (omega (arith, h.number))

@@ -1,5 +1,6 @@
 -- What is read of a text: its script, or the fault of its stages or points; and what a script's parts are.
-use Rattle.std.proofs.Common.{◌≡◌, ◌≢◌, ℕ, zero, suc, get_or, ◌+◌, ◌<◌, ◌≤◌, List, [], ◌∷◌, ◌++◌, map, length, Result, Ok, Err, refl, sym, ap, ◌∙◌, subst, arith, inl, inr, ◌⊎◌}
+use Rattle.std.proofs.Common.{◌≡◌, ◌≢◌, ℕ, zero, suc, get_or, ◌+◌, ◌<◌, ◌≤◌, List, [], ◌∷◌, ◌++◌, map, length, Result}
+use Rattle.std.proofs.Common.{Ok, Err, refl, sym, ap, ◌∙◌, subst, arith, inl, inr, ◌⊎◌}
 use Rattle.std.specs.Prelude.{codes, IfOk, All}
 use Rattle.std.proofs.lemmas.List.{map_push, length-map}
 use Rattle.std.proofs.lemmas.List.Elements.{All-nil, All-cons}
@@ -20,7 +21,8 @@ use Rattle.mf_lines.specs.declared.parts.ScriptFault.{ScriptFault}
 use Rattle.mf_lines.specs.declared.draft.Draft.{Draft}
 use Rattle.mf_lines.specs.declared.forms.Form.{Form}
 use Rattle.mf_lines.specs.declared.forms.Form.TheVariants as says
-use Rattle.mf_lines.specs.Meaning.{Block, Script, SoFar, on_last, with_points, with_stage, with_form, no_block, no_script, so_before, with_line, so_with, so_of, main_of}
+use Rattle.mf_lines.specs.Meaning.{Block, Script, SoFar, on_last, with_points, with_stage, with_form, no_block}
+use Rattle.mf_lines.specs.Meaning.{no_script, so_before, with_line, so_with, so_of, main_of}
 use Rattle.mf_lines.specs.Drafts.{script_in, so_in}
 use Rattle.mf_script.specs.declared.script.NamedFamily.{NamedFamily}
 use Rattle.mf_script.specs.Passes.{read_text}
@@ -34,7 +36,8 @@ use Rattle.mf_script.proofs.RoundTrip.{same_lines, no_longer, again}
 -- ---- faults
 
 -- a fault of the lines, unless memory ran out
-pub line_fault : (text : List ℕ) (fault : ScriptFault) → (fault.kind ≢ kind.Memory → read_text text ≡ Err fault) → IsScriptFault text fault
+pub line_fault : (text : List ℕ) (fault : ScriptFault) → (fault.kind ≢ kind.Memory → read_text text ≡ Err fault)
+    → IsScriptFault text fault
 line_fault text fault h = go fault.kind refl
   where
     told : fault.kind ≢ kind.Memory → IsScriptFault text fault
@@ -54,7 +57,8 @@ module _ (text : List ℕ) (draft : Draft) (read : read_text text ≡ Ok (so_in 
   line : draft.stage_line ≡ (so_of so.forms).stage_line
   line = ap (λ (x : SoFar). x.stage_line) so.is
 
-  shape_told : (fault : ShapeFault) → fault ≢ shape.Memory → shapes.IsFirst draft.stages.items draft.servers fault → IsFault text draft.stage_line (kind.Shape fault)
+  shape_told : (fault : ShapeFault) → fault ≢ shape.Memory → shapes.IsFirst draft.stages.items draft.servers fault
+      → IsFault text draft.stage_line (kind.Shape fault)
   shape_told fault other first = inr (inl (record {
     fault = fault;
     is = refl;
@@ -65,7 +69,8 @@ module _ (text : List ℕ) (draft : Draft) (read : read_text text ≡ Ok (so_in 
     first = subst (λ s. shapes.IsFirst (main_of s).stages s.servers fault) same first;
   }))
 
-  pub shape_fault : (fault : ShapeFault) → shapes.IsFirst draft.stages.items draft.servers fault → IsScriptFault text (record { line = draft.stage_line; kind = shape_kind fault })
+  pub shape_fault : (fault : ShapeFault) → shapes.IsFirst draft.stages.items draft.servers fault
+      → IsScriptFault text (record { line = draft.stage_line; kind = shape_kind fault })
   shape_fault shape.Memory first = inl refl
   shape_fault shape.NoStage first = inr (shape_told shape.NoStage (λ e. cc) first)
   shape_fault shape.TooManyStages first = inr (shape_told shape.TooManyStages (λ e. cc) first)
@@ -79,7 +84,8 @@ module _ (text : List ℕ) (draft : Draft) (read : read_text text ≡ Ok (so_in 
   shape_fault shape.CopiesDontFit first = inr (shape_told shape.CopiesDontFit (λ e. cc) first)
   shape_fault (shape.Servers n) first = inr (shape_told (shape.Servers n) (λ e. cc) first)
 
-  family_told : (fault : FamilyFault) → fault ≢ family.Memory → IsShape (main_code (script_in draft)).shape → families.IsFault draft.stages.items draft.points fault → IsFault text draft.stage_line (kind.Family fault)
+  family_told : (fault : FamilyFault) → fault ≢ family.Memory → IsShape (main_code (script_in draft)).shape
+      → families.IsFault draft.stages.items draft.points fault → IsFault text draft.stage_line (kind.Family fault)
   family_told fault other ok first = inr (inr (record {
     fault = fault;
     is = refl;
@@ -91,23 +97,33 @@ module _ (text : List ℕ) (draft : Draft) (read : read_text text ≡ Ok (so_in 
     first = subst (λ s. families.IsFault (main_of s).stages (main_of s).points fault) same first;
   }))
 
-  pub family_fault : (fault : FamilyFault) → IsShape (main_code (script_in draft)).shape → families.IsFault draft.stages.items draft.points fault → IsScriptFault text (record { line = draft.stage_line; kind = family_kind fault })
+  pub family_fault : (fault : FamilyFault) → IsShape (main_code (script_in draft)).shape
+      → families.IsFault draft.stages.items draft.points fault
+      → IsScriptFault text (record { line = draft.stage_line; kind = family_kind fault })
   family_fault family.Memory ok first = inl refl
   family_fault (family.PointCount n) ok first = inr (family_told (family.PointCount n) (λ e. cc) ok first)
   family_fault (family.PointZero i) ok first = inr (family_told (family.PointZero i) (λ e. cc) ok first)
   family_fault (family.PointTwice i j) ok first = inr (family_told (family.PointTwice i j) (λ e. cc) ok first)
-  family_fault (family.Undecodable g places kernel) ok first = inr (family_told (family.Undecodable g places kernel) (λ e. cc) ok first)
+  family_fault (family.Undecodable g places kernel) ok first =
+      inr (family_told (family.Undecodable g places kernel) (λ e. cc) ok first)
 
   -- ---- a script that was read
 
   module _ (families : List NamedFamily) (family : Code)
       (one : families ≡ record { name = codes "main"; family = family } ∷ [])
-      (is : family ≡ record { shape = record { stages = draft.stages.items; servers = draft.servers }; points = draft.points }) (code : IsCode family) where
+      (is : family ≡ record {
+        shape =
+            record { stages = draft.stages.items; servers = draft.servers };
+        points = draft.points;
+      })
+      (code : IsCode family) where
     abbrev read_script : Script
-    read_script = script_with draft.servers draft.chunk families draft.files.items draft.file_families.items draft.items.items
+    read_script =
+        script_with draft.servers draft.chunk families draft.files.items draft.file_families.items draft.items.items
 
     blocks : map block_of families ≡ main_of (script_in draft) ∷ []
-    blocks = ap (map block_of) one ∙ (λ i. record { name = codes "main"; points = (is i).points; stages = (is i).shape.stages } ∷ [])
+    blocks = ap (map block_of) one
+        ∙ (λ i. record { name = codes "main"; points = (is i).points; stages = (is i).shape.stages } ∷ [])
 
     said : read_script ≡ (so_of so.forms).script
     said =
@@ -127,7 +143,8 @@ module _ (text : List ℕ) (draft : Draft) (read : read_text text ≡ Ok (so_in 
       lines = so.lines;
       says = said;
       families = subst (All (λ block. IsCode (code_of read_script block))) (sym blocks)
-          (All-cons (λ block. IsCode (code_of read_script block)) (main_of (script_in draft)) [] (subst IsCode is code) (All-nil (λ block. IsCode (code_of read_script block))));
+          (All-cons (λ block. IsCode (code_of read_script block)) (main_of (script_in draft)) []
+          (subst IsCode is code) (All-nil (λ block. IsCode (code_of read_script block))));
     }
 
     pub read_kept : IsKept families read_script
@@ -135,7 +152,12 @@ module _ (text : List ℕ) (draft : Draft) (read : read_text text ≡ Ok (so_in 
       text = text;
       is = read_is;
       over = subst (All (λ (named : NamedFamily). named.family.shape.servers ≡ draft.servers)) (sym one)
-          (All-cons (λ (named : NamedFamily). named.family.shape.servers ≡ draft.servers) (record { name = codes "main"; family = family }) [] (ap (λ (c : Code). c.shape.servers) is) (All-nil (λ (named : NamedFamily). named.family.shape.servers ≡ draft.servers)));
+          (All-cons (λ (named : NamedFamily). named.family.shape.servers ≡ draft.servers) (record {
+            name =
+                codes "main";
+            family = family;
+          }) [] (ap (λ (c : Code). c.shape.servers) is)
+          (All-nil (λ (named : NamedFamily). named.family.shape.servers ≡ draft.servers)));
     }
 
 -- ---- a script has one family, to which every file belongs
@@ -146,8 +168,21 @@ pub record HasOne (s : Script) : Type 0 where
   pub file_families : s.file_families ≡ map (λ (file : FileLine). 0) s.files
 
 HasOne-form : (s : Script) (n : ℕ) (form : Form) → HasOne s → HasOne (with_form s n form)
-HasOne-form s n (says.Points points) h = record { block = with_points points h.block; families = ap (on_last (with_points points)) h.families; file_families = h.file_families }
-HasOne-form s n (says.Stage stage) h = record { block = with_stage stage h.block; families = ap (on_last (with_stage stage)) h.families; file_families = h.file_families }
+HasOne-form s n (says.Points points) h =
+    record {
+      block =
+          with_points points h.block;
+      families =
+          ap (on_last (with_points points)) h.families;
+      file_families = h.file_families;
+    }
+HasOne-form s n (says.Stage stage) h =
+    record {
+      block =
+          with_stage stage h.block;
+      families = ap (on_last (with_stage stage)) h.families;
+      file_families = h.file_families;
+    }
 HasOne-form s n (says.File file) h = record {
   block = h.block;
   families = h.families;
@@ -161,7 +196,9 @@ HasOne-with so (form ∷ forms) h = HasOne-with (with_line so form) forms (HasOn
 
 pub HasOne-script : (text : List ℕ) (s : Script) → IsScript text s → HasOne s
 unfolding so_of
-HasOne-script text s is = subst HasOne (sym is.says) (HasOne-with so_before is.forms (record { block = no_block; families = refl; file_families = refl }))
+HasOne-script text s is =
+    subst HasOne (sym is.says)
+    (HasOne-with so_before is.forms (record { block = no_block; families = refl; file_families = refl }))
 
 -- ---- the family, and that of a file
 
@@ -183,21 +220,29 @@ module _ (servers chunk : ℕ) (files : List FileLine) (file_families : List ℕ
   has_main [] one = absurd (let none = one.families in cc)
   has_main (named ∷ families) one = omega arith
 
-  pub main_is : (families : List NamedFamily) (named : NamedFamily) → All (λ (n : NamedFamily). n.family.shape.servers ≡ servers) families
-      → 0 < length families → named ≡ get_or families 0 named → named.family ≡ code_of (of families) (main_of (of families))
+  pub main_is : (families : List NamedFamily) (named : NamedFamily)
+      → All (λ (n : NamedFamily). n.family.shape.servers ≡ servers) families
+      → 0 < length families → named ≡ get_or families 0 named
+      → named.family ≡ code_of (of families) (main_of (of families))
   main_is [] named over some is = absurd (omega arith)
   main_is (n ∷ families) named over some is =
       ap (λ (x : NamedFamily). x.family) is
-      ∙ (λ i. record { shape = record { stages = n.family.shape.stages; servers = over 0 n some i }; points = n.family.points })
+      ∙ (λ i. record {
+        shape =
+            record { stages = n.family.shape.stages; servers = over 0 n some i };
+        points = n.family.points;
+      })
 
   -- each file has a family's number, which is 0
-  pub home_within : (families : List NamedFamily) (file : ℕ) → HasOne (of families) → file < length files → file < length file_families
+  pub home_within : (families : List NamedFamily) (file : ℕ) → HasOne (of families) → file < length files
+      → file < length file_families
   home_within families file one within = omega (arith, ap length one.file_families, long)
     where
       long : length (firsts files) ≡ length files
       long = length-map files (λ f. 0)
 
-  pub home_is : (families : List NamedFamily) (file : ℕ) → HasOne (of families) → file < length files → get_or file_families file 0 ≡ 0
+  pub home_is : (families : List NamedFamily) (file : ℕ) → HasOne (of families) → file < length files
+      → get_or file_families file 0 ≡ 0
   home_is families file one within =
       ap (λ hs. get_or hs file 0) one.file_families ∙ zeros files file
 
@@ -208,8 +253,10 @@ if_ok-map (Ok x) P Q f h = f x h
 if_ok-map (Err e) P Q f h = h
 
 -- the text of a script doesn't say the numbers of families
-pub printed_text : (servers chunk : ℕ) (families : List NamedFamily) (files : List FileLine) (file_families : List ℕ) (items : List Item)
-    → script_text (script_with servers chunk families files [] items) ≡ script_text (script_with servers chunk families files file_families items)
+pub printed_text : (servers chunk : ℕ) (families : List NamedFamily) (files : List FileLine) (file_families : List ℕ)
+    (items : List Item)
+    → script_text (script_with servers chunk families files [] items) ≡ script_text
+    (script_with servers chunk families files file_families items)
 unfolding script_text script_forms
 printed_text servers chunk families files file_families items = refl
 
@@ -222,7 +269,8 @@ printed text s is = record {
 }
 
 pub lines_kept : (text : List ℕ) (s : Script) → IsScript text s → lines_of text ≡ lines_of (script_text s)
-lines_kept text s is = sym (subst (λ x. lines_of (script_text x) ≡ lines_of text) (sym is.says) (same_lines text is.forms is.lines))
+lines_kept text s is =
+    sym (subst (λ x. lines_of (script_text x) ≡ lines_of text) (sym is.says) (same_lines text is.forms is.lines))
 
 pub shortest : (text : List ℕ) (s : Script) → IsScript text s → length (script_text s) ≤ length text
 shortest text s is = subst (λ x. length (script_text x) ≤ length text) (sym is.says) (no_longer text is.forms is.lines)

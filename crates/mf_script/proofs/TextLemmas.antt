@@ -31,7 +31,8 @@ on_ok-map (Err e) P Q f h = h
 abbrev pub spaced : ℕ → List ℕ
 spaced n = 32 ∷ decimal_text n
 
-pub join_spaced : (word : List ℕ) (ns : List ℕ) → join_with_byte 32 (word ∷ map decimal_text ns) ≡ word ++ flat_map spaced ns
+pub join_spaced : (word : List ℕ) (ns : List ℕ)
+    → join_with_byte 32 (word ∷ map decimal_text ns) ≡ word ++ flat_map spaced ns
 join_spaced word [] = sym (append-nil word)
 join_spaced word (n ∷ ns) = ap (λ r. word ++ 32 ∷ r) (join_spaced (decimal_text n) ns)
 
@@ -41,7 +42,8 @@ points_end points = ap (λ r. 10 ∷ r) (sym (join_spaced (codes "points") point
 
 -- ---- lines behind LFs
 
-pub lines_text-append : (names : List (List ℕ)) (a b : List Form) → lines_text names (a ++ b) ≡ lines_text names a ++ lines_text names b
+pub lines_text-append : (names : List (List ℕ)) (a b : List Form)
+    → lines_text names (a ++ b) ≡ lines_text names a ++ lines_text names b
 unfolding lines_text
 lines_text-append names a b = flat_map-append (next_line names) a b
 
@@ -55,53 +57,64 @@ lines_text-nil names = refl
 
 -- ---- the whole text
 
-join_lines : (names : List (List ℕ)) (f : Form) (fs : List Form) → join_with_byte 10 (map (line_text names) (f ∷ fs)) ≡ line_text names f ++ lines_text names fs
+join_lines : (names : List (List ℕ)) (f : Form) (fs : List Form)
+    → join_with_byte 10 (map (line_text names) (f ∷ fs)) ≡ line_text names f ++ lines_text names fs
 unfolding lines_text
 join_lines names f [] = sym (append-nil (line_text names f))
 join_lines names f (g ∷ fs) = ap (λ r. line_text names f ++ 10 ∷ r) (join_lines names g fs)
 
-stages_text : (names : List (List ℕ)) (stages : List Stage) → lines_text names (map says.Stage stages) ≡ lines_text [] (map says.Stage stages)
+stages_text : (names : List (List ℕ)) (stages : List Stage)
+    → lines_text names (map says.Stage stages) ≡ lines_text [] (map says.Stage stages)
 unfolding lines_text line_text
 stages_text names [] = refl
 stages_text names (s ∷ stages) = ap (λ r. next_line [] (says.Stage s) ++ r) (stages_text names stages)
 
-points_text : (names : List (List ℕ)) (points : List ℕ) (rest : List Form) → lines_text names (says.Points points ∷ rest) ≡ next_line [] (says.Points points) ++ lines_text names rest
+points_text : (names : List (List ℕ)) (points : List ℕ) (rest : List Form)
+    → lines_text names (says.Points points ∷ rest) ≡ next_line [] (says.Points points) ++ lines_text names rest
 unfolding lines_text line_text
 points_text names points rest = refl
 
-block_text : (names : List (List ℕ)) (block : Block) → lines_text names (block_forms block) ≡ lines_text [] (block_forms block)
+block_text : (names : List (List ℕ)) (block : Block)
+    → lines_text names (block_forms block) ≡ lines_text [] (block_forms block)
 block_text names block =
     points_text names block.points (map says.Stage block.stages)
     ∙ ap (λ r. next_line [] (says.Points block.points) ++ r) (stages_text names block.stages)
     ∙ sym (points_text [] block.points (map says.Stage block.stages))
 
-blocks_text : (names : List (List ℕ)) (blocks : List Block) → lines_text names (flat_map block_forms blocks) ≡ lines_text [] (flat_map block_forms blocks)
+blocks_text : (names : List (List ℕ)) (blocks : List Block)
+    → lines_text names (flat_map block_forms blocks) ≡ lines_text [] (flat_map block_forms blocks)
 blocks_text names [] = lines_text-nil names ∙ sym (lines_text-nil [])
 blocks_text names (b ∷ blocks) =
     lines_text-append names (block_forms b) (flat_map block_forms blocks)
     ∙ (λ i. block_text names b i ++ blocks_text names blocks i)
     ∙ sym (lines_text-append [] (block_forms b) (flat_map block_forms blocks))
 
-files_text : (names : List (List ℕ)) (files : List FileLine) → lines_text names (map says.File files) ≡ lines_text [] (map says.File files)
+files_text : (names : List (List ℕ)) (files : List FileLine)
+    → lines_text names (map says.File files) ≡ lines_text [] (map says.File files)
 unfolding lines_text line_text
 files_text names [] = refl
 files_text names (f ∷ files) = ap (λ r. next_line [] (says.File f) ++ r) (files_text names files)
 
 store_text : (names : List (List ℕ)) (servers chunk : ℕ) (rest : List Form)
-    → lines_text names (says.Servers servers ∷ says.Chunk chunk ∷ rest) ≡ (next_line [] (says.Servers servers) ++ next_line [] (says.Chunk chunk)) ++ lines_text names rest
+    → lines_text names (says.Servers servers ∷ says.Chunk chunk ∷ rest) ≡
+    (next_line [] (says.Servers servers) ++ next_line [] (says.Chunk chunk)) ++ lines_text names rest
 unfolding lines_text line_text
-store_text names servers chunk rest = sym (append_assoc (next_line [] (says.Servers servers)) (next_line [] (says.Chunk chunk)) (lines_text names rest))
+store_text names servers chunk rest =
+    sym (append_assoc (next_line [] (says.Servers servers)) (next_line [] (says.Chunk chunk)) (lines_text names rest))
 
 end_text : (names : List (List ℕ)) → lines_text names (says.End ∷ []) ≡ 10 ∷ codes "end"
 unfolding lines_text line_text
 end_text names = refl
 
-regroup : (m a b s f i e : List ℕ) → m ++ ((a ++ b) ++ (((s ++ f) ++ i) ++ e)) ≡ (((((m ++ a) ++ b) ++ s) ++ f) ++ i) ++ e
+regroup : (m a b s f i e : List ℕ)
+    → m ++ ((a ++ b) ++ (((s ++ f) ++ i) ++ e)) ≡ (((((m ++ a) ++ b) ++ s) ++ f) ++ i) ++ e
 regroup m a b s f i e = sym (simp append_assoc)
 
 pub whole_text : (servers chunk : ℕ) (families : List NamedFamily) (files : List FileLine) (items : List Item)
-    → (((((codes "morph 1" ++ next_line [] (says.Servers servers)) ++ next_line [] (says.Chunk chunk)) ++ lines_text [] (flat_map block_forms (map block_of families)))
-    ++ lines_text [] (map says.File files)) ++ lines_text (names_in files) (flat_map item_forms items)) ++ 10 ∷ codes "end"
+    → (((((codes "morph 1" ++ next_line [] (says.Servers servers)) ++ next_line [] (says.Chunk chunk))
+    ++ lines_text [] (flat_map block_forms (map block_of families)))
+    ++ lines_text [] (map says.File files)) ++ lines_text (names_in files) (flat_map item_forms items)) ++ 10
+    ∷ codes "end"
     ≡ script_text (script_with servers chunk families files [] items)
 unfolding script_text script_forms line_text
 whole_text servers chunk families files items =
@@ -111,12 +124,16 @@ whole_text servers chunk families files items =
     let ps : List Form = flat_map item_forms items in
     let a : List ℕ = next_line [] (says.Servers servers) in
     let b : List ℕ = next_line [] (says.Chunk chunk) in
-    let rest : lines_text names ((bs ++ fs ++ ps) ++ says.End ∷ []) ≡ ((lines_text [] bs ++ lines_text [] fs) ++ lines_text names ps) ++ 10 ∷ codes "end" =
+    let rest : lines_text names ((bs ++ fs ++ ps) ++ says.End ∷ []) ≡
+    ((lines_text [] bs ++ lines_text [] fs) ++ lines_text names ps) ++ 10 ∷ codes "end" =
     lines_text-append names (bs ++ fs ++ ps) (says.End ∷ [])
-    ∙ (λ i. (lines_text-append names (bs ++ fs) ps ∙ ap (λ x. x ++ lines_text names ps) (lines_text-append names bs fs ∙ (λ j. blocks_text names (map block_of families) j ++ files_text names files j))) i ++ end_text names i) in
+    ∙ (λ i. (lines_text-append names (bs ++ fs) ps
+    ∙ ap (λ x. x ++ lines_text names ps) (lines_text-append names bs fs
+    ∙ (λ j. blocks_text names (map block_of families) j ++ files_text names files j))) i ++ end_text names i) in
     sym (
     join_lines names says.Morph (says.Servers servers ∷ says.Chunk chunk ∷ ((bs ++ fs ++ ps) ++ says.End ∷ []))
-    ∙ ap (λ x. codes "morph 1" ++ x) (store_text names servers chunk ((bs ++ fs ++ ps) ++ says.End ∷ []) ∙ ap (λ x. (a ++ b) ++ x) rest)
+    ∙ ap (λ x. codes "morph 1" ++ x) (store_text names servers chunk ((bs ++ fs ++ ps) ++ says.End ∷ [])
+    ∙ ap (λ x. (a ++ b) ++ x) rest)
     ∙ regroup (codes "morph 1") a b (lines_text [] bs) (lines_text [] fs) (lines_text names ps) (10 ∷ codes "end"))
 
 -- ---- the loops
@@ -125,41 +142,54 @@ pub none_yet : (names : List (List ℕ)) (old : List ℕ) → old ≡ old ++ lin
 none_yet names old = sym (ap (λ r. old ++ r) (lines_text-nil names) ∙ append-nil old)
 
 -- one line more, and some more
-pub add_form : (names : List (List ℕ)) (old out : List ℕ) (forms : List Form) (form : Form) → out ≡ old ++ lines_text names forms → out ++ next_line names form ≡ old ++ lines_text names (forms ++ form ∷ [])
+pub add_form : (names : List (List ℕ)) (old out : List ℕ) (forms : List Form) (form : Form)
+    → out ≡ old ++ lines_text names forms → out ++ next_line names form ≡ old ++ lines_text names (forms ++ form ∷ [])
 add_form names old out forms form so =
     ap (λ o. o ++ next_line names form) so ∙ append_assoc old (lines_text names forms) (next_line names form)
-    ∙ ap (λ r. old ++ r) (ap (λ r. lines_text names forms ++ r) (sym (lines_text-one names form)) ∙ sym (lines_text-append names forms (form ∷ [])))
+    ∙ ap (λ r. old ++ r) (ap (λ r. lines_text names forms ++ r) (sym (lines_text-one names form))
+    ∙ sym (lines_text-append names forms (form ∷ [])))
 
-pub add_forms : (names : List (List ℕ)) (old out : List ℕ) (forms more : List Form) → out ≡ old ++ lines_text names forms → out ++ lines_text names more ≡ old ++ lines_text names (forms ++ more)
+pub add_forms : (names : List (List ℕ)) (old out : List ℕ) (forms more : List Form)
+    → out ≡ old ++ lines_text names forms → out ++ lines_text names more ≡ old ++ lines_text names (forms ++ more)
 add_forms names old out forms more so =
-    ap (λ o. o ++ lines_text names more) so ∙ append_assoc old (lines_text names forms) (lines_text names more) ∙ ap (λ r. old ++ r) (sym (lines_text-append names forms more))
+    ap (λ o. o ++ lines_text names more) so ∙ append_assoc old (lines_text names forms) (lines_text names more)
+    ∙ ap (λ r. old ++ r) (sym (lines_text-append names forms more))
 
-pub map_step : {X Y : Type 0} (f : X → Y) (xs : List X) (i : ℕ) (x : X) → i < length xs → x ≡ get_or xs i x → map f (take i xs) ++ f x ∷ [] ≡ map f (take (i + 1) xs)
+pub map_step : {X Y : Type 0} (f : X → Y) (xs : List X) (i : ℕ) (x : X) → i < length xs → x ≡ get_or xs i x
+    → map f (take i xs) ++ f x ∷ [] ≡ map f (take (i + 1) xs)
 map_step f xs i x lt is = ap (λ y. map f (take i xs) ++ f y ∷ []) is ∙ sym (map_more f xs i x lt)
 
 -- the lines of a family, and those of the loops over families, clients and items
 pub block_lines : (old : List ℕ) (block : Block)
-    → (old ++ next_line [] (says.Points block.points)) ++ lines_text [] (map says.Stage block.stages) ≡ old ++ lines_text [] (block_forms block)
+    → (old ++ next_line [] (says.Points block.points)) ++ lines_text []
+    (map says.Stage block.stages) ≡ old ++ lines_text [] (block_forms block)
 block_lines old block =
     append_assoc old (next_line [] (says.Points block.points)) (lines_text [] (map says.Stage block.stages))
     ∙ ap (λ r. old ++ r) (sym (points_text [] block.points (map says.Stage block.stages)))
 
-pub block_step : (families : List NamedFamily) (i : ℕ) (named : NamedFamily) → i < length families → named ≡ get_or families i named
-    → flat_map block_forms (map block_of (take i families)) ++ block_forms (block_of named) ≡ flat_map block_forms (map block_of (take (i + 1) families))
+pub block_step : (families : List NamedFamily) (i : ℕ) (named : NamedFamily) → i < length families
+    → named ≡ get_or families i named
+    → flat_map block_forms (map block_of (take i families)) ++ block_forms (block_of named) ≡ flat_map block_forms
+    (map block_of (take (i + 1) families))
 block_step families i named lt is =
-    sym (flat_push block_forms (map block_of (take i families)) (block_of named)) ∙ ap (flat_map block_forms) (map_step block_of families i named lt is)
+    sym (flat_push block_forms (map block_of (take i families)) (block_of named))
+    ∙ ap (flat_map block_forms) (map_step block_of families i named lt is)
 
-taken_step : {X : Type 0} (xs : List X) (i : ℕ) (x : X) → i < length xs → x ≡ get_or xs i x → take i xs ++ x ∷ [] ≡ take (i + 1) xs
+taken_step : {X : Type 0} (xs : List X) (i : ℕ) (x : X) → i < length xs → x ≡ get_or xs i x
+    → take i xs ++ x ∷ [] ≡ take (i + 1) xs
 taken_step xs i x lt is = ap (λ y. take i xs ++ y ∷ []) is ∙ sym (take_more xs i x lt)
 
-pub client_step : (clients : List Client) (i : ℕ) (client : Client) → i < length clients → client ≡ get_or clients i client
+pub client_step : (clients : List Client) (i : ℕ) (client : Client) → i < length clients
+    → client ≡ get_or clients i client
     → item_forms (item.Phase (take i clients)) ++ client_forms client ≡ item_forms (item.Phase (take (i + 1) clients))
 client_step clients i client lt is =
-    ap (λ r. says.Phase ∷ r) (sym (flat_push client_forms (take i clients) client) ∙ ap (flat_map client_forms) (taken_step clients i client lt is))
+    ap (λ r. says.Phase ∷ r) (sym (flat_push client_forms (take i clients) client)
+    ∙ ap (flat_map client_forms) (taken_step clients i client lt is))
 
 pub item_step : (items : List Item) (i : ℕ) (x : Item) → i < length items → x ≡ get_or items i x
     → flat_map item_forms (take i items) ++ item_forms x ≡ flat_map item_forms (take (i + 1) items)
-item_step items i x lt is = sym (flat_push item_forms (take i items) x) ∙ ap (flat_map item_forms) (taken_step items i x lt is)
+item_step items i x lt is =
+    sym (flat_push item_forms (take i items) x) ∙ ap (flat_map item_forms) (taken_step items i x lt is)
 
 pub client_start : (names : List (List ℕ)) → 10 ∷ codes "client" ≡ lines_text names (says.Client ∷ [])
 unfolding lines_text line_text

@@ -1,5 +1,6 @@
 -- What a text's lines add up to, or its fault, as one pass over the lines finds it.
-use Rattle.std.specs.Prelude.{◌≡◌, ◌≢◌, ℕ, ◌+◌, nat_lt, if◌then◌else◌, List, [], ◌∷◌, length, Option, Some, None, Result, Ok, Err}
+use Rattle.std.specs.Prelude.{◌≡◌, ◌≢◌, ℕ, ◌+◌, nat_lt, if◌then◌else◌, List, [], ◌∷◌, length, Option, Some, None}
+use Rattle.std.specs.Prelude.{Result, Ok, Err}
 use Rattle.mf_text.specs.Lines.{lines_of}
 use Rattle.mf_lines.specs.declared.parts.Kind.{Kind}
 use Rattle.mf_lines.specs.declared.parts.Kind.TheVariants as kind

@@ -231,8 +231,8 @@ fn print(
     Ok(out)
 }
 
-/// The text of a script: each line but the last ends with LF. It is read as the same script; every text that is read so
-/// has its lines, and so none is shorter. Fails only where memory runs out.
+/// The text of a script: each line but the last ends with LF. It is read as the same script; every
+/// text that is read so has its lines, and so none is shorter. Fails only where memory runs out.
 pub fn print_script(alloc: Global, script: &Script) -> Result<Vec<u8>, AllocError>
     ensures text { IfOk result (λ v. v.items ≡ script_text script.now) }
     ensures again { IfOk result (λ v. IsScript v.items script.now) }

@@ -97,10 +97,11 @@ fn one_family(alloc: Global, family: Family) -> Result<Vec<NamedFamily>, AllocEr
 /// The script that a text is.
 ///
 /// # Errors
-/// `Limit(Text)` at line 0 of a text with more than 1,048,576 bytes. Else the fault of the first line that has one, in
-/// the order of the kinds, where a text that ends before `end` has its fault in the line behind its last. Where no
-/// line has one, the fault of the stages, and else that of the points, both at the first stage's line. `Memory` where
-/// memory ran out; its line says nothing. Want of memory aside, a text that is refused is no script.
+/// `Limit(Text)` at line 0 of a text with more than 1,048,576 bytes. Else the fault of the first
+/// line that has one, in the order of the kinds, where a text that ends before `end` has its fault
+/// in the line behind its last. Where no line has one, the fault of the stages, and else that of
+/// the points, both at the first stage's line. `Memory` where memory ran out; its line says
+/// nothing. Want of memory aside, a text that is refused is no script.
 pub fn read_script(alloc: Global, text: &[u8]) -> Result<Script, ScriptFault>
     ensures script { IfOk result (IsScript text.now) }
     ensures fault { IfErr result (IsScriptFault text.now) }

@@ -11,8 +11,9 @@ pub struct NamedFamily {
     pub family: Family,
 }
 
-/// A script: its servers, its chunk size, its families, its files, each of which belongs to a family, and what stands
-/// between these and the end. A script of this version has one family, named `main`.
+/// A script: its servers, its chunk size, its families, its files, each of which belongs to a
+/// family, and what stands between these and the end. A script of this version has one family,
+/// named `main`.
 #[derive(Debug, Drop)]
 pub struct Script {
     pub(crate) servers: u32,

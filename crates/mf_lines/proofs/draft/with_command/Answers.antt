@@ -6,5 +6,7 @@ use Rattle.mf_lines.proofs.draft.with_command.Goals as goal
 
 pub returns : goal.returns
 returns c =
-    put_back (client_with c.args.command) c.args.clients c.pop.new.self c.push-2.new.self c.pop.result c.in-Some.client c.pop.ensures.last c.in-Some.is
-    (c.in_ok-push-2.ensures ∙ ap (λ (cs : List Command). c.pop.new.self ++ record { commands = cs } ∷ []) c.in_ok-push.ensures)
+    put_back (client_with c.args.command) c.args.clients c.pop.new.self c.push-2.new.self c.pop.result
+    c.in-Some.client c.pop.ensures.last c.in-Some.is
+    (c.in_ok-push-2.ensures
+    ∙ ap (λ (cs : List Command). c.pop.new.self ++ record { commands = cs } ∷ []) c.in_ok-push.ensures)

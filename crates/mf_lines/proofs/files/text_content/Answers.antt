@@ -7,7 +7,10 @@ use Rattle.mf_lines.proofs.ListLemmas.{text_none, text_some}
 use Rattle.mf_lines.proofs.files.text_content.Goals as goal
 
 pub returns-then-is_empty : goal.returns-then-is_empty
-returns-then-is_empty c _ = ap (λ rest. text_in (behind rest)) c.in-Some.is ∙ text_none c.in-Some.bytes.now (eqb-true (length c.in-Some.bytes.now) 0 (sym c.is_empty.ensures ∙ c.if-is_empty.true))
+returns-then-is_empty c _ =
+    ap (λ rest. text_in (behind rest)) c.in-Some.is
+    ∙ text_none c.in-Some.bytes.now
+    (eqb-true (length c.in-Some.bytes.now) 0 (sym c.is_empty.ensures ∙ c.if-is_empty.true))
 
 pub returns : goal.returns
 returns c =

@@ -7,5 +7,7 @@ use Rattle.mf_lines.proofs.forms.points_line.Goals as goal
 pub returns : goal.returns
 returns c =
     subst (Says c.points_of.result)
-    (ap points_in c.deref.ensures.value ∙ points_are (behind c.args.rest) c.in_ok-numbers.numbers.items (behind_some c.args.rest (c.is_none.ensures ∙ ap not c.if-is_none.false)) c.in_ok-numbers.ensures)
+    (ap points_in c.deref.ensures.value
+    ∙ points_are (behind c.args.rest) c.in_ok-numbers.numbers.items
+    (behind_some c.args.rest (c.is_none.ensures ∙ ap not c.if-is_none.false)) c.in_ok-numbers.ensures)
     c.points_of.ensures

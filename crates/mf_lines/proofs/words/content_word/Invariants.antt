@@ -5,4 +5,6 @@ use Rattle.mf_lines.specs.Words.{content_text, content_words}
 use Rattle.mf_lines.proofs.words.content_word.Given as goal
 
 abbrev pub invariant-loop-word : goal.invariant-loop-word
-invariant-loop-word l = find (λ w. bytes_eq l.bytes (content_text w)) content_words ≡ find (λ w. bytes_eq l.bytes (content_text w)) (drop l.word-index content_words)
+invariant-loop-word l =
+    find (λ w. bytes_eq l.bytes (content_text w)) content_words ≡ find (λ w. bytes_eq l.bytes (content_text w))
+    (drop l.word-index content_words)

@@ -4,5 +4,6 @@ use Rattle.mf_script.proofs.contents.pattern.Goals as goal
 
 pub loop-x-preserved : goal.loop-x-preserved
 loop-x-preserved c =
-    c.in_ok-push.ensures.items ∙ (λ i. c.loop-x.invariant i ++ (c.from.ensures i + c.from-in-loop-x.ensures i) % 251 ∷ [])
+    c.in_ok-push.ensures.items
+    ∙ (λ i. c.loop-x.invariant i ++ (c.from.ensures i + c.from-in-loop-x.ensures i) % 251 ∷ [])
     ∙ sym (map-range_with_len_more (λ x. (x + c.args.start) % 251) 0 c.loop-x.x c.loop-x.x (omega arith))

@@ -3,5 +3,13 @@ use Rattle.mf_script.proofs.printing.print.Goals as goal
 
 pub returns : goal.returns
 returns c =
-    rw (c.in_ok-begin.ensures, c.in_ok-push_items.ensures, c.in_ok-push_files.ensures, c.in_ok-push_families.ensures, c.in_ok-push_chunk.ensures, c.in_ok-push_servers.ensures, c.in_ok-out.ensures.items)
+    rw (
+      c.in_ok-begin.ensures,
+      c.in_ok-push_items.ensures,
+      c.in_ok-push_files.ensures,
+      c.in_ok-push_families.ensures,
+      c.in_ok-push_chunk.ensures,
+      c.in_ok-push_servers.ensures,
+      c.in_ok-out.ensures.items,
+    )
     (whole_text c.args.servers c.args.chunk c.args.families.now c.args.files.now c.args.items.now)

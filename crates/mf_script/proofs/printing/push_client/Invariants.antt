@@ -6,4 +6,6 @@ use Rattle.mf_lines.specs.Meaning.{names_in}
 use Rattle.mf_script.proofs.printing.push_client.Given as goal
 
 abbrev pub invariant-loop-command : goal.invariant-loop-command
-invariant-loop-command l = l.out.items ≡ l.fn.out.items ++ lines_text (names_in l.files) (says.Client ∷ map command_form (take l.command-index l.command-items))
+invariant-loop-command l =
+    l.out.items ≡ l.fn.out.items ++ lines_text (names_in l.files)
+    (says.Client ∷ map command_form (take l.command-index l.command-items))

@@ -12,5 +12,9 @@ loop-named-init c = none_yet [] c.args.out.now.items
 pub loop-named-preserved : goal.loop-named-preserved
 loop-named-preserved c =
     c.in_ok-push_family.ensures
-    ∙ add_forms [] c.args.out.now.items c.loop-named.out.items (flat_map block_forms (map block_of (take c.loop-named.named-index c.args.families.now))) (block_forms (block_of c.named-item.result)) c.loop-named.invariant
-    ∙ ap (λ fs. c.args.out.now.items ++ lines_text [] fs) (block_step c.args.families.now c.loop-named.named-index c.named-item.result c.loop-named-test.true c.named-item.is)
+    ∙ add_forms [] c.args.out.now.items c.loop-named.out.items
+    (flat_map block_forms (map block_of (take c.loop-named.named-index c.args.families.now)))
+    (block_forms (block_of c.named-item.result)) c.loop-named.invariant
+    ∙ ap (λ fs. c.args.out.now.items ++ lines_text [] fs)
+    (block_step c.args.families.now c.loop-named.named-index c.named-item.result c.loop-named-test.true
+    c.named-item.is)

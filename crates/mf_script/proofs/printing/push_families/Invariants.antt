@@ -6,4 +6,5 @@ use Rattle.mf_script.specs.Printing.{lines_text}
 use Rattle.mf_script.proofs.printing.push_families.Given as goal
 
 abbrev pub invariant-loop-named : goal.invariant-loop-named
-invariant-loop-named l = l.out.items ≡ l.fn.out.items ++ lines_text [] (flat_map block_forms (map block_of (take l.named-index l.families)))
+invariant-loop-named l =
+    l.out.items ≡ l.fn.out.items ++ lines_text [] (flat_map block_forms (map block_of (take l.named-index l.families)))

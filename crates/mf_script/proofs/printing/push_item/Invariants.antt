@@ -6,4 +6,6 @@ use Rattle.mf_lines.specs.Meaning.{names_in}
 use Rattle.mf_script.proofs.printing.push_item.Given as goal
 
 abbrev pub invariant-loop-client : goal.invariant-loop-client
-invariant-loop-client l = l.out.items ≡ l.fn.out.items ++ lines_text (names_in l.files) (item_forms (item.Phase (take l.client-index l.client-items)))
+invariant-loop-client l =
+    l.out.items ≡ l.fn.out.items ++ lines_text (names_in l.files)
+    (item_forms (item.Phase (take l.client-index l.client-items)))

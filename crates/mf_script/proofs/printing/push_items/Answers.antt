@@ -12,5 +12,8 @@ loop-item-init c = none_yet (names_in c.args.files.now) c.args.out.now.items
 pub loop-item-preserved : goal.loop-item-preserved
 loop-item-preserved c =
     c.in_ok-push_item.ensures
-    ∙ add_forms (names_in c.args.files.now) c.args.out.now.items c.loop-item.out.items (flat_map item_forms (take c.loop-item.item-index c.args.items.now)) (item_forms c.item-item.result) c.loop-item.invariant
-    ∙ ap (λ fs. c.args.out.now.items ++ lines_text (names_in c.args.files.now) fs) (item_step c.args.items.now c.loop-item.item-index c.item-item.result c.loop-item-test.true c.item-item.is)
+    ∙ add_forms (names_in c.args.files.now) c.args.out.now.items c.loop-item.out.items
+    (flat_map item_forms (take c.loop-item.item-index c.args.items.now))
+    (item_forms c.item-item.result) c.loop-item.invariant
+    ∙ ap (λ fs. c.args.out.now.items ++ lines_text (names_in c.args.files.now) fs)
+    (item_step c.args.items.now c.loop-item.item-index c.item-item.result c.loop-item-test.true c.item-item.is)

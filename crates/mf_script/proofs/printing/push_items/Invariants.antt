@@ -6,4 +6,5 @@ use Rattle.mf_lines.specs.Meaning.{names_in}
 use Rattle.mf_script.proofs.printing.push_items.Given as goal
 
 abbrev pub invariant-loop-item : goal.invariant-loop-item
-invariant-loop-item l = l.out.items ≡ l.fn.out.items ++ lines_text (names_in l.files) (flat_map item_forms (take l.item-index l.items))
+invariant-loop-item l =
+    l.out.items ≡ l.fn.out.items ++ lines_text (names_in l.files) (flat_map item_forms (take l.item-index l.items))

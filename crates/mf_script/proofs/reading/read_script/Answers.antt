@@ -13,7 +13,9 @@ returns-in-Err-clause-none c = told_is_no_script c.args.text.now _ _ (returns-in
 
 pub returns-in-Err-new-clause-fault : goal.returns-in-Err-new-clause-fault
 returns-in-Err-new-clause-fault c =
-    rw c.shape_fault.ensures (shape_fault c.args.text.now c.in-Ok.draft c.in-Ok.ensures c.in-Err-new.fault (rw c.deref.ensures.value at c.in-Err-new.ensures.refused))
+    rw c.shape_fault.ensures
+    (shape_fault c.args.text.now c.in-Ok.draft c.in-Ok.ensures c.in-Err-new.fault
+    (rw c.deref.ensures.value at c.in-Err-new.ensures.refused))
 
 pub returns-in-Err-new-clause-none : goal.returns-in-Err-new-clause-none
 returns-in-Err-new-clause-none c = told_is_no_script c.args.text.now _ _ (returns-in-Err-new-clause-fault c)
@@ -22,8 +24,12 @@ pub returns-in-Err-check-clause-fault : goal.returns-in-Err-check-clause-fault
 returns-in-Err-check-clause-fault c =
     let shape = rw c.deref.ensures.value at c.in-Ok-new.ensures.kept.0 in
     let kept = subst IsShape shape c.in-Ok-new.ensures.kept.1 in
-    let fault = subst (λ (s : Chain). families.IsFault s.stages c.as_slice.result.now c.in-Err-check.fault) shape c.in-Err-check.ensures.fault in
-    rw c.family_fault.ensures (family_fault c.args.text.now c.in-Ok.draft c.in-Ok.ensures c.in-Err-check.fault kept (rw c.as_slice.ensures at fault))
+    let fault =
+    subst (λ (s : Chain). families.IsFault s.stages c.as_slice.result.now c.in-Err-check.fault) shape
+    c.in-Err-check.ensures.fault in
+    rw c.family_fault.ensures
+    (family_fault c.args.text.now c.in-Ok.draft c.in-Ok.ensures c.in-Err-check.fault kept
+    (rw c.as_slice.ensures at fault))
 
 pub returns-in-Err-check-clause-none : goal.returns-in-Err-check-clause-none
 returns-in-Err-check-clause-none c = told_is_no_script c.args.text.now _ _ (returns-in-Err-check-clause-fault c)
@@ -32,12 +38,14 @@ pub invariant_of-result : goal.invariant_of-result
 invariant_of-result c =
     let shape = rw c.deref.ensures.value at c.in-Ok-new.ensures.kept.0 in
     let code = c.in-Ok-check.ensures.family in
-    read_kept c.args.text.now c.in-Ok.draft c.in-Ok.ensures c.in-Ok-one_family.families.items c.in-Ok-check.family c.in-Ok-one_family.ensures
+    read_kept c.args.text.now c.in-Ok.draft c.in-Ok.ensures c.in-Ok-one_family.families.items c.in-Ok-check.family
+    c.in-Ok-one_family.ensures
     (code.0 ∙ (λ i. record { shape = shape i; points = c.as_slice.ensures i })) code.1
 
 pub returns-clause-script : goal.returns-clause-script
 returns-clause-script c =
     let shape = rw c.deref.ensures.value at c.in-Ok-new.ensures.kept.0 in
     let code = c.in-Ok-check.ensures.family in
-    read_is c.args.text.now c.in-Ok.draft c.in-Ok.ensures c.in-Ok-one_family.families.items c.in-Ok-check.family c.in-Ok-one_family.ensures
+    read_is c.args.text.now c.in-Ok.draft c.in-Ok.ensures c.in-Ok-one_family.families.items c.in-Ok-check.family
+    c.in-Ok-one_family.ensures
     (code.0 ∙ (λ i. record { shape = shape i; points = c.as_slice.ensures i })) code.1

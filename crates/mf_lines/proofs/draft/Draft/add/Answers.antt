@@ -18,12 +18,14 @@ returns-in_ok-push-in-File-2-clause-draft c =
     let is = c.in_ok-name-in-File.ensures.items ∙ c.as_slice.ensures in
     let new = subst (IsNew c.args.self.now) c.in-File.is c.requires.new in
     let absent : list_any (λ k. bytes_eq c.in_ok-name-in-File.name.items k.items) c.args.self.now.names.keys ≡ false =
-    rw is (sym (list_any-map (bytes_eq c.in-File.file.name) (λ n. n.items) keys) ∙ ap (list_any (bytes_eq c.in-File.file.name)) c.requires.draft.names ∙ new) in
+    rw is (sym (list_any-map (bytes_eq c.in-File.file.name) (λ n. n.items) keys)
+    ∙ ap (list_any (bytes_eq c.in-File.file.name)) c.requires.draft.names ∙ new) in
     let more = c.in_ok-push-in-File.ensures.items in
     let long = length_push files c.in-File.file in
     let size = ap length more in
     record {
-      names = ap names_of (c.in_ok-insert-in-File.ensures.keys ∙ cond-false _ _ _ absent) ∙ map_push (λ n. n.items) keys c.in_ok-name-in-File.name
+      names = ap names_of (c.in_ok-insert-in-File.ensures.keys ∙ cond-false _ _ _ absent)
+          ∙ map_push (λ n. n.items) keys c.in_ok-name-in-File.name
           ∙ (λ i. c.requires.draft.names i ++ is i ∷ [])
           ∙ sym (ap names_in more ∙ map_push (λ f. f.name) files c.in-File.file);
       files = omega arith;

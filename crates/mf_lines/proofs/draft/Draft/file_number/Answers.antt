@@ -17,10 +17,12 @@ overflow_cast-result c =
 
 pub returns-in-Some : goal.returns-in-Some
 returns-in-Some c =
-    sym c.in-Some.is ∙ c.get_index_of.ensures.index ∙ sym (position-map (bytes_eq c.args.name.now) (λ n. n.items) c.args.self.now.names.keys)
+    sym c.in-Some.is ∙ c.get_index_of.ensures.index
+    ∙ sym (position-map (bytes_eq c.args.name.now) (λ n. n.items) c.args.self.now.names.keys)
     ∙ ap (position (bytes_eq c.args.name.now)) c.requires.names
 
 pub returns-in-None : goal.returns-in-None
 returns-in-None c =
-    sym c.in-None.is ∙ c.get_index_of.ensures.index ∙ sym (position-map (bytes_eq c.args.name.now) (λ n. n.items) c.args.self.now.names.keys)
+    sym c.in-None.is ∙ c.get_index_of.ensures.index
+    ∙ sym (position-map (bytes_eq c.args.name.now) (λ n. n.items) c.args.self.now.names.keys)
     ∙ ap (position (bytes_eq c.args.name.now)) c.requires.names

@@ -1,5 +1,5 @@
 -- Lists with gaps, and the lists that fill them.
-use Rattle.std.proofs.Common.{◌≡◌, ℕ, zero, suc, ◌+◌, ◌<◌, ◌≤◌, Bool, true, false, cond, List, [], ◌∷◌, ◌++◌, length, map, get_or, Option, Some, None, bit_xor, refl, sym, ap, ap₂, ◌∙◌, arith, add-zero}
+use Rattle.std.proofs.Common.{◌≡◌, ℕ, zero, suc, ◌+◌, ◌<◌, ◌≤◌, Bool, true, false, cond, List, [], ◌∷◌, ◌++◌, length, map, take, get_or, Option, Some, None, bit_xor, refl, sym, ap, ap₂, ◌∙◌, arith, add-zero}
 use Rattle.std.specs.Prelude.{slice_get, unwrap_or, is_some, not, count_by}
 use Rattle.std.specs.Option.{option_map}
 use Rattle.std.specs.Int.Bits.{xor_assoc}
@@ -94,6 +94,14 @@ pub gaps_from-none : {A : Type 0} (t n : ℕ) (ps : List (Option A)) → t + len
 gaps_from-none t n [] e = ap (λ (m : ℕ). m ∷ []) (let d : t ≡ n = omega arith in d)
 gaps_from-none t n (Some y ∷ ps) e = gaps_from-none (t + 1) n ps (omega arith)
 gaps_from-none t n (None ∷ ps) e = ap (λ (l : List ℕ). t ∷ l) (gaps_from-none (t + 1) n ps (omega arith))
+
+-- before a gap there are fewer gaps
+pub gaps_before : {A : Type 0} (t : ℕ) (ps : List (Option A)) (k : ℕ) (o : Option A) → k < length ps → o ≡ get_or ps k o → o ≡ None → length (gaps_from t (take k ps)) < length (gaps_from t ps)
+gaps_before t [] k o lt is none = absurd (omega arith)
+gaps_before t (Some x ∷ ps) zero o lt is none = absurd (cc)
+gaps_before t (None ∷ ps) zero o lt is none = omega arith
+gaps_before t (Some x ∷ ps) (suc k) o lt is none = gaps_before (t + 1) ps k o (omega arith) is none
+gaps_before t (None ∷ ps) (suc k) o lt is none = let h = gaps_before (t + 1) ps k o (omega arith) is none in omega arith
 
 -- the same by a test
 pub gaps_from-push-none : {A : Type 0} (t n : ℕ) (ps : List (Option A)) (o : Option A) → is_some o ≡ false → t + length ps ≡ n → gaps_from t (ps ++ o ∷ []) ≡ gaps_from t ps ++ n ∷ []

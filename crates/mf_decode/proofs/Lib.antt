@@ -9,3 +9,5 @@ pub mod Askings
 pub mod Whole
 pub mod OnePoint
 pub mod Letters
+pub mod Sources
+pub mod Applied

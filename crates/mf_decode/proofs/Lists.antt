@@ -1,9 +1,8 @@
 -- Data lists and their columns.
-use Rattle.std.proofs.Common.{◌≡◌, ℕ, ◌+◌, ◌<◌, ◌≤◌, ◌⊎◌, inl, inr, List, [], ◌∷◌, ◌++◌, length, map, get_or, Option, Some, None, refl, sym, ap, ap₂, ◌∙◌, subst, arith, zero-add}
+use Rattle.std.proofs.Common.{◌≡◌, ℕ, ◌<◌, List, [], ◌∷◌, length, map, get_or, Option, Some, None, refl, sym, ap, ap₂, ◌∙◌, subst, arith, zero-add}
 use Rattle.std.specs.Prelude.{slice_get, All, IfSome}
 use Rattle.std.specs.Option.{option_map}
-use Rattle.std.proofs.lemmas.List.{length-map, get_or-map, ext_get_or, get_or_default, get_or_append_left, get_or_push}
-use Rattle.std.proofs.lemmas.Bool.{cases_lt}
+use Rattle.std.proofs.lemmas.List.{length-map, get_or-map, ext_get_or, get_or_default}
 use Rattle.std.proofs.lemmas.Option.{slice_get-map, slice_get_within, get_or_from_slice_get}
 use Rattle.mf_code.specs.Sums.{weighted}
 use Rattle.mf_code.specs.Rows.{column}
@@ -12,6 +11,7 @@ use Rattle.mf_code.specs.Decodable.{IsData}
 use Rattle.mf_lemmas.proofs.Lists.{byte_at}
 use Rattle.mf_decode.specs.Stripes.{IsChunk, IsDataList, parity_of}
 use Rattle.mf_decode.specs.Decoding.{Plan, points_of, gaps_from, filled, column_of, Agrees, AgreesInColumn, IsDecodedAt}
+use Rattle.mf_matrix.specs.Matrix.{Grid}
 use Rattle.mf_decode.specs.Plans.{IsPlan}
 use Rattle.mf_decode.proofs.Filling.{length-filled, filled-there, all-filled, refilled, map-filled}
 use Rattle.mf_decode.proofs.Solving.{decoded, decoded_list}
@@ -135,7 +135,7 @@ filled_is_list plan size pieces parities chunks g = record {
 }
 
 -- the filled list agrees with what was handed in
-pub filled_agrees : (plan : Plan) (chosen inverse : List ℕ) (size : ℕ) (pieces : List (Option (List ℕ))) (parities chunks : List (List ℕ)) → IsPlan plan chosen inverse → Given plan size pieces parities chunks
+pub filled_agrees : (plan : Plan) (chosen : List ℕ) (inverse : Grid) (size : ℕ) (pieces : List (Option (List ℕ))) (parities chunks : List (List ℕ)) → IsPlan plan chosen inverse → Given plan size pieces parities chunks
     → Agrees plan size pieces parities (filled [] pieces chunks)
 filled_agrees plan chosen inverse size pieces parities chunks p g =
     agrees_from_columns plan size pieces parities (filled [] pieces chunks) (filled_is_list plan size pieces parities chunks g) (λ t chunk h. filled-there [] pieces chunks t chunk h) g.count g.parity_sizes
@@ -152,13 +152,24 @@ only_filled plan size pieces parities chunks g list a =
     same_columns (length pieces) size list (filled [] pieces chunks) a.list_is (filled_is_list plan size pieces parities chunks g)
     (λ x lt. sym (same_as_agreeing plan pieces parities chunks x (column x list) g.gaps g.many (λ i li. g.decoded i x li lt) (agrees_in_column plan size pieces parities list x a lt)))
 
--- one chunk more
-pub chunk_more : (P : ℕ → List ℕ → Type 0) (chunks : List (List ℕ)) (chunk : List ℕ) (n : ℕ) → length chunks ≡ n → ((i : ℕ) (other : List ℕ) → i < n → P i (get_or chunks i other)) → P n chunk
-    → (i : ℕ) (other : List ℕ) → i < n + 1 → P i (get_or (chunks ++ chunk ∷ []) i other)
-chunk_more P chunks chunk n long before here i other lt = at (cases_lt i n)
-  where
-    at : (i < n) ⊎ (n ≤ i) → P i (get_or (chunks ++ chunk ∷ []) i other)
-    at (inl l) = subst (P i) (sym (get_or_append_left chunks (chunk ∷ []) other i (omega arith))) (before i other l)
-    at (inr le) =
-        let e : n ≡ i = omega arith in
-        subst (λ (k : ℕ). P k (get_or (chunks ++ chunk ∷ []) k other)) e (subst (P n) (sym (get_or_push chunks chunk other n long)) here)
+-- ---- pieces with no gap
+
+-- they are a data list
+pub no_gaps_list : (size : ℕ) (found : List (Option (List ℕ))) → gaps_from 0 found ≡ [] → All (λ piece. IfSome piece (λ bytes. length bytes ≡ size)) found
+    → PieceBytes found → IsDataList (length found) size (filled [] found [])
+no_gaps_list size found none sizes bytes = record {
+  len = length-filled [] found [];
+  chunks = all-filled (IsChunk size) [] 0 found [] (sym (ap length none))
+      (λ t chunk h. record {
+        len = (let s = sizes t (Some chunk) (slice_get_within found t (Some chunk) h) in subst (λ (o : Option (List ℕ)). IfSome o (λ bytes. length bytes ≡ size)) (get_or_from_slice_get found t (Some chunk) (Some chunk) h) s);
+        bytes = bytes t chunk h;
+      })
+      (λ k d lt. absurd (omega arith));
+}
+
+-- each list that agrees is the one that they are
+pub no_gaps_only : (plan : Plan) (size : ℕ) (found : List (Option (List ℕ))) (parities list : List (List ℕ)) → gaps_from 0 found ≡ [] → Agrees plan size found parities list → list ≡ filled [] found []
+no_gaps_only plan size found parities list none a =
+    let at : ℕ → List ℕ = λ i. get_or list i [] in
+    sym (ap (λ (gs : List ℕ). filled [] found (map at gs)) (sym none)
+    ∙ refilled [] at 0 found list a.list_is.len a.pieces_are (λ i d lt. ap at (zero-add i) ∙ get_or_default list i [] d lt))

@@ -1,14 +1,14 @@
 -- A plan from its parts.
-use Rattle.std.proofs.Common.{◌≡◌, ℕ, zero, suc, ◌+◌, ◌*◌, ◌<◌, ◌≤◌, List, [], ◌∷◌, ◌++◌, length, map, get_or, refl, sym, ap, ap₂, ◌∙◌, subst, arith, length-append}
+use Rattle.std.proofs.Common.{◌≡◌, ℕ, zero, suc, ◌<◌, ◌≤◌, List, [], ◌∷◌, length, map, get_or, refl, sym, ◌∙◌, subst, arith}
 use Rattle.mf_matrix.specs.declared.NoInverse.{NoInverse}
 use Rattle.mf_matrix.specs.declared.NoInverse.TheVariants as no_inverse
-use Rattle.mf_matrix.specs.Tables.{IsInverse, IsTable}
+use Rattle.mf_matrix.specs.Matrix.{Grid, entry as entry_of}
+use Rattle.mf_matrix.specs.Tables.{IsInverse}
 use Rattle.mf_matrix.specs.NoInverses.{IsNoInverse}
-use Rattle.mf_matrix.proofs.Sums.{cells_more}
 use Rattle.mf_matrix.proofs.Same.{SameBelow, same_back, is_inverse-same, has_inverse-same, is_kernel-same}
 use Rattle.mf_erasure.specs.Erasure.{entry, IsErasure, IsPlaces}
 use Rattle.mf_erasure.proofs.Places.{others_complement}
-use Rattle.mf_decode.specs.Plans.{IsNoPlan, no_plan_of, HasRows, IsPlan}
+use Rattle.mf_decode.specs.Plans.{IsNoPlan, no_plan_of, IsPlan}
 
 -- places below a count are at most as many
 pub few_places : (count : ℕ) (places : List ℕ) → IsPlaces count places → length places ≤ count
@@ -33,46 +33,32 @@ map_bytes points [] lp j = omega arith
 map_bytes points (p ∷ ps) lp zero = lp p
 map_bytes points (p ∷ ps) lp (suc j) = map_bytes points ps lp j
 
--- ---- cells, row by row
+-- the matrix has the entries of the erasure's
+pub entries_same : (points erased parities : List ℕ) (m : Grid) (n : ℕ) → length erased ≡ n → length parities ≡ n
+    → ((i j : ℕ) → i < length parities → j < length erased → entry_of m i j ≡ entry points erased parities i j) → SameBelow n (entry_of m) (entry points erased parities)
+entries_same points erased parities m n ne np at i j li lj = at i j (omega arith) (omega arith)
 
-pub has_rows-none : (n : ℕ) (f : ℕ → ℕ → ℕ) → HasRows n 0 f []
-has_rows-none n f = record { len = omega arith; at = λ i j li lj. absurd (omega arith) }
-
-pub has_rows-more : (n count : ℕ) (f : ℕ → ℕ → ℕ) (cells row : List ℕ) → HasRows n count f cells → length row ≡ n → ((j : ℕ) → j < n → get_or row j 0 ≡ f count j) → HasRows n (count + 1) f (cells ++ row)
-has_rows-more n count f cells row before long is = record {
-  len = length-append cells row ∙ ap₂ (λ (a b : ℕ). a + b) before.len long ∙ (let e : count * n + n ≡ (count + 1) * n = omega arith in e);
-  at = cells_more cells row count n f before.len long before.at is;
-}
-
--- the cells have the entries of the erasure's matrix
-pub cells_same : (points erased parities cells : List ℕ) (n : ℕ) → length erased ≡ n → length parities ≡ n → HasRows (length erased) (length parities) (entry points erased parities) cells
-    → SameBelow n (λ i j. get_or cells (i * n + j) 0) (entry points erased parities)
-cells_same points erased parities cells n ne np rows i j li lj =
-    ap (λ (k : ℕ). get_or cells (i * k + j) 0) (sym ne) ∙ rows.at i j (subst (λ (k : ℕ). i < k) (sym np) li) (subst (λ (k : ℕ). j < k) (sym ne) lj)
-
--- the table of a list of bytes
-pub is_table : (cells : List ℕ) (n : ℕ) → ((k : ℕ) → get_or cells k 0 < 256) → IsTable (λ i j. get_or cells (i * n + j) 0)
-is_table cells n bytes i j = bytes (i * n + j)
-
--- the rows that were read have the entries of the inverse
-pub plan_inverts : (points erased parities cells inverse : List ℕ) (b : ℕ → ℕ → ℕ) → length erased ≡ length parities → HasRows (length erased) (length parities) (entry points erased parities) cells
-    → IsInverse (length erased) (λ i j. get_or cells (i * length erased + j) 0) b → HasRows (length erased) (length erased) b inverse → ((k : ℕ) → get_or inverse k 0 < 256)
-    → IsInverse (length erased) (entry points erased parities) (λ i j. get_or inverse (i * length erased + j) 0)
-plan_inverts points erased parities cells inverse b even rows inv has bytes =
-    is_inverse-same (length erased) (λ i j. get_or cells (i * length erased + j) 0) (entry points erased parities) b (λ i j. get_or inverse (i * length erased + j) 0)
-    (cells_same points erased parities cells (length erased) refl (sym even) rows) (λ i j li lj. sym (has.at i j li lj)) (is_table inverse (length erased) bytes) inv
+-- its inverse inverts the erasure's matrix
+pub plan_inverts : (points erased parities : List ℕ) (m b : Grid) → length erased ≡ length parities → m.columns ≡ length erased
+    → ((i j : ℕ) → i < length parities → j < length erased → entry_of m i j ≡ entry points erased parities i j)
+    → IsInverse m.columns (entry_of m) (entry_of b) → IsInverse (length erased) (entry points erased parities) (entry_of b)
+plan_inverts points erased parities m b even wide at inv =
+    let here : IsInverse (length erased) (entry_of m) (entry_of b) = subst (λ (n : ℕ). IsInverse n (entry_of m) (entry_of b)) wide inv in
+    is_inverse-same (length erased) (entry_of m) (entry points erased parities) (entry_of b) (entry_of b)
+    (entries_same points erased parities m (length erased) refl (sym even) at) (λ i j li lj. refl) here.bytes here
 
 -- the plan is one
-pub is_plan-from : (points : List ℕ) (width : ℕ) (erased parities chosen cells inverse : List ℕ) (b : ℕ → ℕ → ℕ) → width ≤ 64 → IsErasure width (length points) erased parities
-    → ((k : ℕ) → get_or points k 0 < 256) → chosen ≡ map (λ p. get_or points p 0) parities → HasRows (length erased) (length parities) (entry points erased parities) cells
-    → IsInverse (length erased) (λ i j. get_or cells (i * length erased + j) 0) b → HasRows (length erased) (length erased) b inverse → ((k : ℕ) → get_or inverse k 0 < 256)
-    → IsPlan (record { points = points; width = width; erased = erased; parities = parities }) chosen inverse
-is_plan-from points width erased parities chosen cells inverse b narrow erasure lp is rows inv has li = record {
+pub is_plan-from : (points : List ℕ) (width : ℕ) (erased parities chosen : List ℕ) (m b : Grid) → width ≤ 64 → length points ≤ 4 → IsErasure width (length points) erased parities
+    → ((k : ℕ) → get_or points k 0 < 256) → chosen ≡ map (λ p. get_or points p 0) parities → m.rows ≡ length parities → m.columns ≡ length erased
+    → ((i j : ℕ) → i < length parities → j < length erased → entry_of m i j ≡ entry points erased parities i j) → b.rows ≡ m.rows → b.columns ≡ m.columns
+    → IsInverse m.columns (entry_of m) (entry_of b) → IsPlan (record { points = points; width = width; erased = erased; parities = parities }) chosen b
+is_plan-from points width erased parities chosen m b narrow small erasure lp is rows columns at same_rows same_columns inv = record {
   narrow = narrow;
+  few = let h = few_erased width (length points) erased parities erasure in omega arith;
   erasure = erasure;
   chosen_are = is;
   chosen_bytes = λ j. subst (λ (l : List ℕ). get_or l j 0 < 256) (sym is) (map_bytes points parities lp j);
-  len = has.len;
-  bytes = li;
-  inverts = plan_inverts points erased parities cells inverse b erasure.even rows inv has li;
+  rows_are = same_rows ∙ rows ∙ sym erasure.even;
+  columns_are = same_columns ∙ columns;
+  inverts = plan_inverts points erased parities m b erasure.even columns at inv;
 }

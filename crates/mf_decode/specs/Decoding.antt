@@ -1,8 +1,6 @@
 -- What a decoding is: the one data list that agrees with what was handed in.
 use Rattle.std.specs.Prelude.{ℕ, ◌≡◌, ◌+◌, List, [], ◌∷◌, length, map, slice_index, slice_get, Option, Some, None}
 use Rattle.std.specs.Option.{option_map}
-use Rattle.std.specs.declared.vec.Vec.{Vec}
-use Rattle.std.specs.declared.alloc.Global.{Global}
 use Rattle.mf_code.specs.Sums.{weighted}
 use Rattle.mf_code.specs.Rows.{column}
 use Rattle.mf_code.specs.Decodable.{IsData}
@@ -32,10 +30,6 @@ filled other [] fillings = []
 filled other (Some x ∷ xs) fillings = x ∷ filled other xs fillings
 filled other (None ∷ xs) [] = other ∷ filled other xs []
 filled other (None ∷ xs) (y ∷ fillings) = y ∷ filled other xs fillings
-
--- The bytes of each vector, in turn.
-abbrev pub rows : List (Vec ℕ Global) → List (List ℕ)
-rows vectors = map (λ v. v.items) vectors
 
 -- A data list of chunks of `size` bytes agrees with what was handed in: each piece that is there is its chunk, and the
 -- parities are its parities.

@@ -1,7 +1,8 @@
 -- What a plan is made of.
-use Rattle.std.specs.Prelude.{ℕ, ◌≡◌, ⊤, ◌+◌, ◌*◌, ◌<◌, ◌≤◌, List, length, slice_index}
+use Rattle.std.specs.Prelude.{ℕ, ◌≡◌, ⊤, ◌<◌, ◌≤◌, List, length, slice_index}
 use Rattle.mf_matrix.specs.declared.NoInverse.{NoInverse}
 use Rattle.mf_matrix.specs.declared.NoInverse.TheVariants as no_inverse
+use Rattle.mf_matrix.specs.Matrix.{Grid, entry as entry_of}
 use Rattle.mf_matrix.specs.Tables.{HasInverse, IsInverse, IsKernel}
 use Rattle.mf_erasure.specs.Erasure.{entry, IsErasure}
 use Rattle.mf_decode.specs.declared.planning.NoPlan.{NoPlan}
@@ -19,19 +20,14 @@ abbrev pub no_plan_of : NoInverse → NoPlan
 no_plan_of (no_inverse.Kernel x) = no_plan.Kernel x
 no_plan_of no_inverse.Memory = no_plan.Memory
 
--- Rows of n cells, one after the other: the cell of row i and column j is f i j.
-pub record HasRows (n count : ℕ) (f : ℕ → ℕ → ℕ) (cells : List ℕ) : Type 0 where
-  pub len : length cells ≡ count * n
-  pub at : (i j : ℕ) → i < count → j < n → slice_index cells (i * n + j) ≡ f i j
-
--- The plan is one of an erasure, `chosen` has the points of its parities, and `inverse` has the inverse of its matrix,
--- row by row.
-pub record IsPlan (plan : Plan) (chosen inverse : List ℕ) : Type 0 where
+-- The plan is one of an erasure of at most eight places, `chosen` has the points of its parities, and `inverse` is the
+-- inverse of its matrix.
+pub record IsPlan (plan : Plan) (chosen : List ℕ) (inverse : Grid) : Type 0 where
   pub narrow : plan.width ≤ 64
+  pub few : length plan.erased ≤ 8
   pub erasure : IsErasure plan.width (length plan.points) plan.erased plan.parities
   pub chosen_are : chosen ≡ points_of plan
   pub chosen_bytes : (j : ℕ) → slice_index chosen j < 256
-  pub len : length inverse ≡ length plan.erased * length plan.erased
-  pub bytes : (k : ℕ) → slice_index inverse k < 256
-  pub inverts : IsInverse (length plan.erased) (entry plan.points plan.erased plan.parities)
-      (λ i j. slice_index inverse (i * length plan.erased + j))
+  pub rows_are : inverse.rows ≡ length plan.erased
+  pub columns_are : inverse.columns ≡ length plan.erased
+  pub inverts : IsInverse (length plan.erased) (entry plan.points plan.erased plan.parities) (entry_of inverse)

@@ -1,16 +1,21 @@
 //! Decoding by a plan: the one data list that agrees with what was handed in.
-ghost use Rattle.std.specs.Prelude.{◌≡◌, ℕ, ◌+◌, ◌^◌, ◌<◌, ◌≤◌, List, [], Some, length};
-ghost use Rattle.std.specs.Prelude.{slice_index, slice_get, bit_xor, All, IfOk, IfSome};
+ghost use Rattle.std.specs.Prelude.{◌≡◌, ℕ, ◌+◌, ◌^◌, ◌<◌, ◌≤◌, List, [], ◌∷◌, ◌++◌, length, map};
+ghost use Rattle.std.specs.Prelude.{slice_index, bit_xor, All, IfOk, IfSome, OnOk, unwrap_or};
+ghost use Rattle.std.specs.Option.{option_map};
+ghost use Rattle.std.specs.List.{range_with_len};
 ghost use Rattle.mf_code.specs.Field.{times};
 ghost use Rattle.mf_code.specs.Sums.{sum_below};
 ghost use Rattle.mf_code.specs.Rows.{column};
-ghost use Rattle.mf_decode.specs.Stripes.{IsChunk};
-ghost use Rattle.mf_decode.specs.Decoding.{Agrees, IsDecodedAt, gaps_from, filled, rows, column_of};
-ghost use Rattle.mf_decode.specs.Columns.{there, weight_of};
+ghost use Rattle.mf_kernel.specs.Dots.{rows};
+ghost use Rattle.mf_matrix.specs.Matrix.{entry};
+ghost use Rattle.mf_decode.specs.Decoding.{Agrees, IsDecodedAt, gaps_from, filled, column_of};
+ghost use Rattle.mf_decode.specs.Columns.{there, weight_of, row_entries, present};
+ghost use Rattle.mf_decode.specs.Columns.{weights_from, decode_row};
 
 use crate::planning::DecodePlan;
 use mf_field::{add, mul, pow};
-use mf_kernel::{BLOCK, Chunk, Memory, add_scaled};
+use mf_kernel::{Chunk, Memory, add_scaled, combine_all};
+use mf_matrix::Matrix;
 use std::alloc::Global;
 
 /// The erased chunks of a stripe, in order, by its plan: with them the pieces are the one data list that agrees with
@@ -37,60 +42,10 @@ pub fn apply(
         → Agrees plan.now chunk pieces.now parities.now list
         → list ≡ filled [] pieces.now (rows chunks.items)) }
 {
-    know_pieces(pieces);
-    know_parities(parities);
-    let erased = plan.erased.len();
-    let mut chunks = Vec::with_capacity(alloc, erased)?;
-    for e in 0..erased {
-        chunks.push(erased_chunk(alloc, plan, e as u32, chunk, pieces, parities)?)?;
-    }
-    Ok(chunks)
-}
-
-// The e-th erased chunk, block by block.
-fn erased_chunk(
-    alloc: Global,
-    plan: &DecodePlan,
-    e: u32,
-    chunk: u32,
-    pieces: &[Option<Chunk>],
-    parities: &[Chunk],
-) -> Result<Vec<u8>, Memory>
-    requires count { length pieces.now ≤ plan.now.width }
-    requires gaps { gaps_from 0 pieces.now ≡ plan.now.erased }
-    requires parities { length parities.now ≡ length plan.now.parities }
-    requires place { e < length plan.now.erased }
-    requires piece_sizes { All (λ piece. IfSome piece (λ bytes. length bytes ≡ chunk)) pieces.now }
-    requires parity_sizes { All (λ bytes. length bytes ≡ chunk) parities.now }
-    ensures size { IfOk result (λ bytes. IsChunk chunk bytes.items) }
-    ensures decoded { IfOk result (λ bytes. (x : ℕ) → x < chunk
-        → IsDecodedAt plan.now pieces.now parities.now x (slice_index plan.now.erased e)
-        (slice_index bytes.items x)) }
-{
-    let mut bytes = vec![in alloc; 0; chunk as usize]?;
-    fill(plan, e, pieces, parities, &mut bytes);
-    Ok(bytes)
-}
-
-// Fills `out` with the e-th erased chunk, block by block.
-fn fill(plan: &DecodePlan, e: u32, pieces: &[Option<Chunk>], parities: &[Chunk], out: &mut [u8])
-    requires count { length pieces.now ≤ plan.now.width }
-    requires gaps { gaps_from 0 pieces.now ≡ plan.now.erased }
-    requires parities { length parities.now ≡ length plan.now.parities }
-    requires place { e < length plan.now.erased }
-    requires piece_sizes { All (λ piece. IfSome piece
-        (λ bytes. length bytes ≡ length out.old)) pieces.now }
-    requires parity_sizes { All (λ bytes. length bytes ≡ length out.old) parities.now }
-    ensures { (x : ℕ) → x < length out.old
-        → IsDecodedAt plan.now pieces.now parities.now x (slice_index plan.now.erased e)
-        (slice_index out.new x) }
-{
-    let mut start = 0;
-    while start < out.len() {
-        let end = (start + BLOCK).min(out.len());
-        apply_block(plan, e, pieces, parities, start, &mut out[start..end]);
-        start = end;
-    }
+    let sources = sources_of(alloc, parities, pieces)?;
+    let erased = plan.erased.len() as u32;
+    let rows = decode_rows(alloc, &plan.inverse, erased, &plan.chosen, pieces)?;
+    combine_all(alloc, &rows, &sources, chunk as usize)
 }
 
 /// Fills `out` with the bytes from `start` on of the e-th erased chunk. What is handed in is as for `apply`; the
@@ -114,80 +69,178 @@ pub fn apply_block(
         → IsDecodedAt plan.now pieces.now parities.now (start + x) (slice_index plan.now.erased e)
         (slice_index out.new x) }
 {
-    know_pieces(pieces);
-    know_parities(parities);
-    let count = plan.erased.len();
-    let from = e as usize * count;
-    let row = &plan.inverse[from..from + count];
     out.fill(0);
-    add_parities(row, parities, start, out);
-    add_pieces(row, &plan.chosen, pieces, start, out);
+    add_parities(&plan.inverse, e, parities, start, out);
+    add_pieces(&plan.inverse, e, &plan.chosen, pieces, start, out);
 }
 
-// Adds the parities, each times its entry of the row.
-fn add_parities(row: &[u8], parities: &[Chunk], start: usize, out: &mut [u8])
-    requires entries { length row.now ≡ length parities.now }
+// Adds the parities, each times its entry of row e.
+fn add_parities(inverse: &Matrix, e: u32, parities: &[Chunk], start: usize, out: &mut [u8])
+    requires row { e < inverse.now.rows }
+    requires entries { inverse.now.columns ≡ length parities.now }
+    requires few { length parities.now ≤ 8 }
     requires columns { All (λ bytes. start + length out.old ≤ length bytes) parities.now }
-    ensures { (x : ℕ) → x < length out.old
-        → slice_index out.new x ≡ bit_xor (slice_index out.old x) (sum_below (length row.now)
-        (λ j. times (slice_index row.now j) (slice_index (column (start + x) parities.now) j))) }
+    ensures sum { (x : ℕ) → x < length out.old
+        → slice_index out.new x ≡ bit_xor (slice_index out.old x) (sum_below (length parities.now)
+        (λ j. times (entry inverse.now e j) (slice_index (column (start + x) parities.now) j))) }
+    ensures bytes { All (λ chunk. All (λ b. b < 256) chunk) parities.now }
 {
     for (j, parity) in parities.iter().enumerate() {
         let bytes = parity.bytes();
         let end = start + out.len();
-        add_scaled(out, row[j], &bytes[start..end]);
+        add_scaled(out, inverse.at(e, j as u32), &bytes[start..end]);
     }
 }
 
 // Adds the pieces that are there, each times its weight.
-fn add_pieces(row: &[u8], points: &[u8], pieces: &[Option<Chunk>], start: usize, out: &mut [u8])
-    requires entries { length row.now ≡ length points.now }
+fn add_pieces(
+    inverse: &Matrix,
+    e: u32,
+    points: &[u8],
+    pieces: &[Option<Chunk>],
+    start: usize,
+    out: &mut [u8],
+)
+    requires row { e < inverse.now.rows }
+    requires entries { inverse.now.columns ≡ length points.now }
+    requires few_points { length points.now ≤ 8 }
     requires few { length pieces.now < 2 ^ 32 }
     requires columns { All (λ piece. IfSome piece
         (λ bytes. start + length out.old ≤ length bytes)) pieces.now }
-    ensures { (x : ℕ) → x < length out.old
+    ensures sum { (x : ℕ) → x < length out.old
         → slice_index out.new x ≡ bit_xor (slice_index out.old x) (sum_below (length pieces.now)
-        (λ t. times (weight_of row.now points.now t) (slice_index (there (column_of
-        (start + x) pieces.now)) t))) }
+        (λ t. times (weight_of (row_entries inverse.now e) points.now t)
+        (slice_index (there (column_of (start + x) pieces.now)) t))) }
+    ensures bytes { All (λ piece. IfSome piece (λ chunk. All (λ b. b < 256) chunk)) pieces.now }
 {
     for (t, piece) in pieces.iter().enumerate() {
-        if let Some(chunk) = piece {
-            let bytes = chunk.bytes();
-            let end = start + out.len();
-            add_scaled(out, weight(row, points, t as u32), &bytes[start..end]);
-        }
+        add_piece(weight(inverse, e, points, t as u32), piece, start, out);
     }
 }
 
-// The weight of piece `t`: the sum, over the parities, of the row's entry times the parity's point to the power of `t`.
-fn weight(row: &[u8], points: &[u8], t: u32) -> u8
-    requires { length row.now ≡ length points.now }
-    ensures { result ≡ weight_of row.now points.now t }
+// Adds a piece, where it is there, times a factor.
+fn add_piece(factor: u8, piece: &Option<Chunk>, start: usize, out: &mut [u8])
+    requires { IfSome piece.now (λ bytes. start + length out.old ≤ length bytes) }
+    ensures length { length out.new ≡ length out.old }
+    ensures sum { (x : ℕ) → x < length out.old
+        → slice_index out.new x ≡ bit_xor (slice_index out.old x)
+        (times factor (unwrap_or (option_map (λ chunk. slice_index chunk (start + x)) piece.now) 0)) }
+    ensures bytes { IfSome piece.now (λ chunk. All (λ b. b < 256) chunk) }
+{
+    if let Some(chunk) = piece {
+        let bytes = chunk.bytes();
+        let end = start + out.len();
+        add_scaled(out, factor, &bytes[start..end]);
+    }
+}
+
+// The weight of piece `t`: the sum, over the parities, of the entry of row e times the parity's point to the power of
+// `t`.
+fn weight(inverse: &Matrix, e: u32, points: &[u8], t: u32) -> u8
+    requires row { e < inverse.now.rows }
+    requires entries { inverse.now.columns ≡ length points.now }
+    requires few { length points.now ≤ 8 }
+    ensures { result ≡ weight_of (row_entries inverse.now e) points.now t }
 {
     let mut sum = 0;
     for (j, point) in points.iter().enumerate() {
-        sum = add(sum, mul(row[j], pow(*point, t)));
+        sum = add(sum, mul(inverse.at(e, j as u32), pow(*point, t)));
     }
     sum
 }
 
-// Tells what each piece is made of: bytes.
-fn know_pieces(pieces: &[Option<Chunk>])
-    ensures { (t : ℕ) (chunk : List ℕ) → slice_get pieces.now t ≡ Some (Some chunk) → All
-        (λ b. b < 256) chunk }
+// What is there: the parities, and then the pieces.
+fn sources_of(
+    alloc: Global,
+    parities: &[Chunk],
+    pieces: &[Option<Chunk>],
+) -> Result<Vec<Chunk>, Memory>
+    ensures sources { IfOk result (λ all. all.items ≡ parities.now ++ present pieces.now) }
+    ensures parity_bytes { IfOk result (λ _. All (λ chunk. All (λ b. b < 256) chunk) parities.now) }
+    ensures piece_bytes { IfOk result (λ _. All (λ piece. IfSome piece
+        (λ chunk. All (λ b. b < 256) chunk)) pieces.now) }
 {
+    let mut all = Vec::with_capacity(alloc, parities.len())?;
+    for parity in parities {
+        all.push(parity.share()?)?;
+    }
     for piece in pieces {
-        if let Some(chunk) = piece {
-            let _bytes = chunk.bytes();
+        push_present(&mut all, piece)?;
+    }
+    Ok(all)
+}
+
+// Adds a piece, where it is there.
+fn push_present(all: &mut Vec<Chunk>, piece: &Option<Chunk>) -> Result<(), Memory>
+    ensures items { OnOk result (all.new.items ≡ all.old.items ++ present (piece.now ∷ [])) }
+    ensures bytes { OnOk result (IfSome piece.now (λ chunk. All (λ b. b < 256) chunk)) }
+{
+    match piece {
+        Some(chunk) => {
+            all.push(chunk.share()?)?;
+            Ok(())
         }
+        None => Ok(()),
     }
 }
 
-// Tells what each parity is made of: bytes.
-fn know_parities(parities: &[Chunk])
-    ensures { All (λ chunk. All (λ b. b < 256) chunk) parities.now }
+// The row of coefficients of each erased chunk.
+fn decode_rows(
+    alloc: Global,
+    inverse: &Matrix,
+    count: u32,
+    points: &[u8],
+    pieces: &[Option<Chunk>],
+) -> Result<Vec<Vec<u8>>, Memory>
+    requires count { inverse.now.rows ≡ count }
+    requires entries { inverse.now.columns ≡ length points.now }
+    requires few_points { length points.now ≤ 8 }
+    requires few { length pieces.now < 2 ^ 32 }
+    ensures { IfOk result (λ lists. rows lists.items
+        ≡ map (decode_row inverse.now points.now pieces.now) (range_with_len 0 count)) }
 {
-    for parity in parities {
-        let _bytes = parity.bytes();
+    let mut lists = Vec::with_capacity(alloc, count as usize)?;
+    for e in 0..count {
+        let mut row = entries_of(alloc, inverse, e, points.len())?;
+        push_weights(&mut row, inverse, e, points, pieces)?;
+        lists.push(row)?;
     }
+    Ok(lists)
+}
+
+// The entries of row e.
+fn entries_of(alloc: Global, inverse: &Matrix, e: u32, count: usize) -> Result<Vec<u8>, Memory>
+    requires row { e < inverse.now.rows }
+    requires entries { inverse.now.columns ≡ count }
+    requires few { count ≤ 8 }
+    ensures { IfOk result (λ row. row.items ≡ row_entries inverse.now e) }
+{
+    let mut row = Vec::with_capacity(alloc, count)?;
+    for j in 0..count {
+        row.push(inverse.at(e, j as u32))?;
+    }
+    Ok(row)
+}
+
+// Adds the weights of the pieces that are there.
+fn push_weights(
+    row: &mut Vec<u8>,
+    inverse: &Matrix,
+    e: u32,
+    points: &[u8],
+    pieces: &[Option<Chunk>],
+) -> Result<(), Memory>
+    requires row { e < inverse.now.rows }
+    requires entries { inverse.now.columns ≡ length points.now }
+    requires few_points { length points.now ≤ 8 }
+    requires few { length pieces.now < 2 ^ 32 }
+    ensures { OnOk result (row.new.items ≡ row.old.items
+        ++ weights_from (row_entries inverse.now e) points.now 0 pieces.now) }
+{
+    for (t, piece) in pieces.iter().enumerate() {
+        if piece.is_some() {
+            row.push(weight(inverse, e, points, t as u32))?;
+        }
+    }
+    Ok(())
 }

@@ -1,11 +1,12 @@
 //! Gathering: the data of a stripe from what can be had of it.
 ghost use Rattle.std.specs.Prelude.{◌≡◌, ℕ, ◌^◌, ◌<◌, ◌≤◌, ◌++◌, List, [], None};
-ghost use Rattle.std.specs.Prelude.{length, slice_index_or, All, IfOk, IfSome};
+ghost use Rattle.std.specs.Prelude.{length, All, IfOk, IfSome};
 ghost use Rattle.mf_code.specs.Decodable.{IsDecodable};
 ghost use Rattle.mf_erasure.specs.Erasure.{IsErasure};
 ghost use Rattle.mf_decode.specs.declared.pieces.Asked.{Asked};
 ghost use Rattle.mf_decode.specs.Stripes.{IsDataList};
-ghost use Rattle.mf_decode.specs.Decoding.{Agrees, gaps_from, filled, rows};
+ghost use Rattle.mf_kernel.specs.Dots.{rows};
+ghost use Rattle.mf_decode.specs.Decoding.{Agrees, gaps_from, filled};
 ghost use Rattle.mf_decode.specs.Gathering.{IsStripe, IsWhole, IsAnswer, HasAsked, answer_of};
 
 use crate::applying::apply;
@@ -100,7 +101,7 @@ pub(crate) fn gaps_of(alloc: Global, found: &[Option<Chunk>]) -> Result<Vec<u32>
     Ok(erased)
 }
 
-// The pieces, with those that were not found made from the parities.
+// The pieces, with those that were not found made from the parities. Where all were found there is no plan.
 fn restored(
     alloc: Global,
     points: &[u8],
@@ -129,10 +130,13 @@ fn restored(
         }) chunk found.items had.now.chunks.items list
         → list ≡ chunks.items) }
 {
+    if erased.is_empty() {
+        return fill_gaps(alloc, found.as_slice(), &[]);
+    }
     let plan = sure_plan(alloc, points, width, erased, had.numbers.as_slice())?;
     let lists = apply(alloc, &plan, chunk, found.as_slice(), had.chunks.as_slice())?;
     let fillings = chunks_of(alloc, lists)?;
-    fill_gaps(alloc, found, fillings.as_slice())
+    fill_gaps(alloc, found.as_slice(), fillings.as_slice())
 }
 
 // The plan of a decodable stripe, which always has one.
@@ -177,31 +181,24 @@ fn chunks_of(alloc: Global, lists: Vec<Vec<u8>>) -> Result<Vec<Chunk>, Memory>
 // The pieces, with the gaps filled by these chunks in order.
 fn fill_gaps(
     alloc: Global,
-    found: Vec<Option<Chunk>>,
+    found: &[Option<Chunk>],
     fillings: &[Chunk],
 ) -> Result<Vec<Chunk>, Memory>
-    ensures { IfOk result (λ all. all.items ≡ filled [] found.items fillings.now) }
+    requires { length fillings.now ≡ length (gaps_from 0 found.now) }
+    ensures all { IfOk result (λ all. all.items ≡ filled [] found.now fillings.now) }
+    ensures bytes { IfOk result (λ _. All (λ piece. IfSome piece
+        (λ chunk. All (λ b. b < 256) chunk)) found.now) }
 {
     let mut all = Vec::with_capacity(alloc, found.len())?;
     let mut gaps = 0;
     for piece in found {
         match piece {
-            Some(chunk) => all.push(chunk)?,
+            Some(chunk) => all.push(chunk.share()?)?,
             None => {
-                all.push(filling(alloc, fillings, gaps)?)?;
+                all.push(fillings[gaps].share()?)?;
                 gaps += 1;
             }
         }
     }
     Ok(all)
-}
-
-// The chunk that fills the n-th gap.
-fn filling(alloc: Global, fillings: &[Chunk], n: usize) -> Result<Chunk, Memory>
-    ensures { IfOk result (λ chunk. chunk ≡ slice_index_or fillings.now n []) }
-{
-    match fillings.get(n) {
-        Some(chunk) => chunk.share(),
-        None => Chunk::new(alloc, Vec::new(alloc)),
-    }
 }

@@ -1,14 +1,11 @@
 //! Plans: which data of a stripe is erased, which parities are had in its stead, and the inverse that leads back.
-ghost use Rattle.std.specs.Prelude.{◌≡◌, ℕ, ◌<◌, ◌≤◌, ◌++◌, length, map, slice_index};
+ghost use Rattle.std.specs.Prelude.{◌≡◌, ℕ, ◌<◌, ◌≤◌, length, map, slice_index};
 ghost use Rattle.std.specs.Prelude.{OnOk, IfOk, IfErr};
-ghost use Rattle.mf_code.specs.Field.{power};
-ghost use Rattle.mf_code.specs.Rows.{list_of};
-ghost use Rattle.mf_matrix.specs.Matrix.{entry as cell_at};
 ghost use Rattle.mf_matrix.specs.Tables.{HasInverse};
 ghost use Rattle.mf_erasure.specs.Erasure.{entry, IsErasure};
-ghost use Rattle.mf_decode.specs.Plans.{IsNoPlan, HasRows, no_plan_of};
+ghost use Rattle.mf_decode.specs.Plans.{IsNoPlan, no_plan_of};
 
-use mf_field::pow;
+use mf_erasure::erasure_matrix;
 use mf_kernel::Memory;
 use mf_matrix::{KernelList, Matrix, NoInverse, invert};
 use std::alloc::{AllocError, Global};
@@ -22,9 +19,9 @@ pub struct DecodePlan {
     pub(crate) width: u32,
     pub(crate) erased: Vec<u32>,
     pub(crate) parities: Vec<u32>,
-    // The points of the parities, and the inverse of their matrix, row by row.
+    // The points of the parities, and the inverse of the erasure's matrix.
     pub(crate) chosen: Vec<u8>,
-    pub(crate) inverse: Vec<u8>,
+    pub(crate) inverse: Matrix,
 }
 
 impl Model for DecodePlan {
@@ -45,7 +42,7 @@ impl Model for DecodePlan {
       width = p.width;
       erased = p.erased.items;
       parities = p.parities.items;
-    }) p.chosen.items p.inverse.items };
+    }) p.chosen.items p.inverse };
 }
 
 /// Why there is no plan.
@@ -103,11 +100,8 @@ pub fn plan(
     ensures kernel { IfErr result (IsNoPlan (length erased.now)
         (entry points.now erased.now parities.now)) }
 {
-    let size = erased.len() as u32;
-    let cells = cells_of(alloc, points, erased, parities)?;
-    let matrix = Matrix::new(size, size, cells);
-    let inverse = rows_of(alloc, &invert(alloc, &matrix)?, size)?;
-    know_bytes(inverse.as_slice());
+    let matrix = erasure_matrix(points, erased, parities);
+    let inverse = invert(alloc, &matrix)?;
     Ok(DecodePlan {
         points: Vec::from_slice(alloc, points)?,
         width,
@@ -117,11 +111,6 @@ pub fn plan(
         inverse,
     })
 }
-
-// Tells that the bytes are below 256.
-fn know_bytes(bytes: &[u8])
-    ensures { (k : ℕ) → slice_index bytes.now k < 256 }
-{}
 
 // The points of these parities.
 fn chosen_of(alloc: Global, points: &[u8], parities: &[u32]) -> Result<Vec<u8>, Memory>
@@ -134,58 +123,4 @@ fn chosen_of(alloc: Global, points: &[u8], parities: &[u32]) -> Result<Vec<u8>, 
         chosen.push(points[*p as usize])?;
     }
     Ok(chosen)
-}
-
-// The cells of the matrix: a row for each parity, and a column for each erased place.
-fn cells_of(
-    alloc: Global,
-    points: &[u8],
-    erased: &[u32],
-    parities: &[u32],
-) -> Result<Vec<u8>, Memory>
-    requires { (j : ℕ) → j < length parities.now → slice_index parities.now j < length points.now }
-    ensures { IfOk result
-        (λ cells. HasRows (length erased.now) (length parities.now)
-        (entry points.now erased.now parities.now) cells.items) }
-{
-    let mut cells = Vec::new(alloc);
-    for p in parities {
-        push_powers(&mut cells, points[*p as usize], erased)?;
-    }
-    Ok(cells)
-}
-
-// Adds the powers of a point, one for each erased place.
-fn push_powers(cells: &mut Vec<u8>, point: u8, erased: &[u32]) -> Result<(), Memory>
-    ensures { OnOk result (cells.new.items ≡ cells.old.items ++ map
-        (λ t. power point t) erased.now) }
-{
-    for t in erased {
-        cells.push(pow(point, *t))?;
-    }
-    Ok(())
-}
-
-// The cells of a matrix, row by row.
-fn rows_of(alloc: Global, matrix: &Matrix, size: u32) -> Result<Vec<u8>, Memory>
-    requires { (matrix.now.rows ≡ size) × (matrix.now.columns ≡ size) }
-    ensures { IfOk result (λ cells. HasRows size size (cell_at matrix.now) cells.items) }
-{
-    let mut cells = Vec::new(alloc);
-    for row in 0..size {
-        push_row(&mut cells, matrix, row, size)?;
-    }
-    Ok(cells)
-}
-
-// Adds a row of a matrix.
-fn push_row(cells: &mut Vec<u8>, matrix: &Matrix, row: u32, size: u32) -> Result<(), Memory>
-    requires { (row < matrix.now.rows) × (matrix.now.columns ≡ size) }
-    ensures { OnOk result (cells.new.items ≡ cells.old.items ++ list_of size
-        (cell_at matrix.now row)) }
-{
-    for column in 0..size {
-        cells.push(matrix.at(row, column))?;
-    }
-    Ok(())
 }

@@ -1,6 +1,5 @@
 -- A block of columns of a sum of scaled pieces, added up piece by piece.
-use Rattle.std.proofs.Common.{◌≡◌, ℕ, ◌+◌, ◌-◌, ◌*◌, ◌<◌, ◌≤◌, List, length, get_or, take, drop, replicate, bit_xor, sym, ap, ap₂, ◌∙◌, arith}
-use Rattle.std.specs.Int.{div_ceil}
+use Rattle.std.proofs.Common.{◌≡◌, ℕ, ◌+◌, ◌-◌, ◌<◌, ◌≤◌, List, length, get_or, take, drop, replicate, bit_xor, sym, ap, ap₂, ◌∙◌, arith}
 use Rattle.std.proofs.lemmas.List.{length-map, length-take, length-drop, length-replicate, get_or-map, get_or-take, get_or-drop, get_or-replicate}
 use Rattle.std.proofs.lemmas.Simd.{length-zip2, get_or-zip2}
 use Rattle.mf_code.specs.Field.{times}
@@ -55,10 +54,3 @@ module _ (scale : ℕ → ℕ) where
       ∙ get_or-zip2 (λ y z. bit_xor y (times factor z)) out part x 0 0 0 here (omega arith)
       ∙ ap₂ bit_xor (so_far x here) (ap₂ times factor_is byte)
       ∙ sym (sum_below-more t (λ i. times (scale i) (get_or (column (start + x) pieces) i 0)))
-
--- a block that is there begins before the last column, and the blocks together have all columns
-pub block_begins : (size block count : ℕ) → count ≡ div_ceil size 4096 → block < count → block * 4096 < size
-block_begins size block count is lt = omega arith
-
-pub blocks_cover : (size block count : ℕ) → count ≡ div_ceil size 4096 → count ≤ block → size ≤ block * 4096
-blocks_cover size block count is le = omega arith

@@ -37,7 +37,8 @@ impl Chunk {
 
     /// A further owner of the same bytes. The only error is want of memory.
     pub fn share(&self) -> Result<Chunk, Memory>
-        ensures { IfOk result (λ c. c ≡ self.now) }
+        ensures same { IfOk result (λ c. c ≡ self.now) }
+        ensures bytes { All (λ b. b < 256) self.now }
     {
         let bytes = Arc::try_clone(&self.bytes)?;
         Ok(Chunk { bytes })

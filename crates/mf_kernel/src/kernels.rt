@@ -7,10 +7,6 @@ use crate::factor::Factor;
 use crate::lanes::{LANES, lanes_at, put_lanes};
 use mf_field::{add, mul};
 
-/// The most columns that codes work on at a time, so that a block of each chunk of a stripe stays
-/// near the processor.
-pub const BLOCK: usize = 4_096;
-
 /// Adds `src` to `dst`, byte by byte. The two have one length.
 pub fn add_into(dst: &mut [u8], src: &[u8])
     requires { length dst.old ≡ length src.now }

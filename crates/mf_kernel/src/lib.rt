@@ -11,4 +11,4 @@ mod row;
 
 pub use chunk::{Chunk, Memory};
 pub use combining::{combine, combine_all, powers};
-pub use kernels::{BLOCK, add_into, add_scaled, scale};
+pub use kernels::{add_into, add_scaled, scale};

@@ -1,5 +1,5 @@
 use Rattle.std.proofs.Common.{◌≡◌}
-use Rattle.mf_decode.specs.Decoding.{rows}
+use Rattle.mf_kernel.specs.Dots.{rows}
 use Rattle.mf_decode.proofs.gathering.chunks_of.Given as goal
 
 abbrev pub invariant-loop-bytes : goal.invariant-loop-bytes

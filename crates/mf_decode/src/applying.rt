@@ -162,12 +162,21 @@ fn sources_of(
 {
     let mut all = Vec::with_capacity(alloc, parities.len())?;
     for parity in parities {
-        all.push(parity.share()?)?;
+        all.push(shared(parity)?)?;
     }
     for piece in pieces {
         push_present(&mut all, piece)?;
     }
     Ok(all)
+}
+
+/// A further owner of a chunk, whose bytes are below 256.
+pub(crate) fn shared(chunk: &Chunk) -> Result<Chunk, Memory>
+    ensures same { IfOk result (λ c. c ≡ chunk.now) }
+    ensures bytes { All (λ b. b < 256) chunk.now }
+{
+    let _bytes = chunk.bytes();
+    chunk.share()
 }
 
 // Adds a piece, where it is there.
@@ -177,7 +186,7 @@ fn push_present(all: &mut Vec<Chunk>, piece: &Option<Chunk>) -> Result<(), Memor
 {
     match piece {
         Some(chunk) => {
-            all.push(chunk.share()?)?;
+            all.push(shared(chunk)?)?;
             Ok(())
         }
         None => Ok(()),

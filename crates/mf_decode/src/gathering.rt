@@ -9,7 +9,7 @@ ghost use Rattle.mf_kernel.specs.Dots.{rows};
 ghost use Rattle.mf_decode.specs.Decoding.{Agrees, gaps_from, filled};
 ghost use Rattle.mf_decode.specs.Gathering.{IsStripe, IsWhole, IsAnswer, HasAsked, answer_of};
 
-use crate::applying::apply;
+use crate::applying::{apply, shared};
 use crate::asking::{Had, ask_parities, ask_pieces};
 use crate::pieces::Pieces;
 use crate::planning::{DecodePlan, NoPlan, plan};
@@ -193,9 +193,9 @@ fn fill_gaps(
     let mut gaps = 0;
     for piece in found {
         match piece {
-            Some(chunk) => all.push(chunk.share()?)?,
+            Some(chunk) => all.push(shared(chunk)?)?,
             None => {
-                all.push(fillings[gaps].share()?)?;
+                all.push(shared(&fillings[gaps])?)?;
                 gaps += 1;
             }
         }

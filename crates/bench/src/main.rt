@@ -1,0 +1,36 @@
+//! Times the codes. With a number of turns it prints the best of so many, and with no argument what
+//! it would time.
+#![tactic(auto)]
+
+mod checking;
+mod codes;
+mod kernels;
+mod report;
+
+use anyhow::{Result, bail};
+use report::report;
+use std::env;
+
+fn main(rt: HostRuntime) -> Result<()> {
+    match env::args(&rt)?.nth(1) {
+        None => explain(&rt),
+        Some(turns) => match turns.parse::<u32>()? {
+            0 => bail!("0 turns time nothing"),
+            turns => report(&rt, turns),
+        },
+    }
+}
+
+/// Prints what is timed.
+fn explain(rt: &impl Print) -> Result<()> {
+    println!(rt; "bench TURNS")?;
+    println!(rt; "times the codes with chunks of 4, 64 and 1024 KiB: the best of TURNS turns")?;
+    println!(rt; "each rate is of the bytes that are read, and as a part of that of xor")?;
+    println!(rt; "xor, copy: a plain loop of exclusive or, and a copy, of one chunk")?;
+    println!(rt; "add_into, scale, add_scaled: the three kernels, on one chunk")?;
+    println!(rt; "encode 6+3, 12+3: a stripe of 6 or of 12 chunks to 3 parities")?;
+    println!(rt; "merge 2, merge 4: the parities of so many narrow stripes to a wide one")?;
+    println!(rt; "decode E of K+3: K - E chunks and E parities to the E erased chunks")?;
+    println!(rt; "check 64+4: a family of the greatest width and number of parities")?;
+    Ok(())
+}

@@ -8,3 +8,4 @@ pub mod Named
 pub mod Coding
 pub mod Begins
 pub mod Rests
+pub mod Closings

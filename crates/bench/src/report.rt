@@ -29,7 +29,7 @@ pub fn report<R: Print + Clock + AllocGlobal>(rt: &R, turns: u32) -> Result<()> 
             repeats: 1,
         },
     )?;
-    println!(rt; "check 64+4 {} us", least / 1_000)?;
+    println!(rt; "check 33+4 {} us", least / 1_000)?;
     Ok(())
 }
 

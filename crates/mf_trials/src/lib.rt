@@ -1,9 +1,11 @@
-//! Trials of the codes: what their calls answer, beside plain loops over carry-less products. There
-//! are only tests.
+//! Trials across crates: what the calls of the codes answer, beside plain loops over carry-less
+//! products, and a file that its only actor creates and reads. There are only tests.
 #![tactic(auto)]
 
 #[cfg(test)]
 mod books;
+#[cfg(test)]
+mod engines;
 #[cfg(test)]
 mod families;
 #[cfg(test)]

@@ -16,7 +16,7 @@ use Rattle.mf_stripe.proofs.Cuts.{length-chunks}
 use Rattle.mf_vault.specs.Facts.{cell}
 use Rattle.mf_check.specs.Families.{Code}
 use Rattle.mf_convert.specs.declared.cells.Made.{Made}
-use Rattle.mf_convert.specs.Conditions.{IsOfFamily}
+use Rattle.mf_vault.specs.Conditions.{IsOfFamily}
 use Rattle.mf_convert.specs.Cells.{IsFirst, AreMade, parities_of, first_stripes, rows_of}
 
 -- what a name of the first generation says
@@ -135,7 +135,7 @@ parities_more b file j all next v so_far is made =
 
 -- the parities that an encoding by the family makes
 pub parities_made : (b : BookFacts) (code : Code) (file : List ℕ) (j : ℕ) (points : List ℕ) (size width : ℕ) (all : List (List ℕ))
-    → IsOfFamily code b → points ≡ code.points → size ≡ b.chunk → width ≡ width_at code.shape.stages 0
+    → IsOfFamily code.shape code.points b → points ≡ code.points → size ≡ b.chunk → width ≡ width_at code.shape.stages 0
     → all ≡ map (λ point. parity size file point width j) points → all ≡ parities_of b file j
 parities_made b code file j points size width all of ps is wide made = made
     ∙ (ap (λ l. map (λ point. parity size file point width j) l) (ps ∙ sym of.points)

@@ -1,5 +1,4 @@
 -- What the public calls promise.
-pub mod Conditions
 pub mod Create
 pub mod Remove
 pub mod Laws

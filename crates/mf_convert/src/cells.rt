@@ -6,7 +6,7 @@ ghost use Rattle.mf_places.specs.Facts.{BookFacts, chunks_of};
 ghost use Rattle.mf_shape.specs.Stages.{width_at};
 ghost use Rattle.mf_kernel.specs.Dots.{rows};
 ghost use Rattle.mf_vault.specs.Facts.{cell};
-ghost use Rattle.mf_convert.specs.Conditions.{IsOfFamily};
+ghost use Rattle.mf_vault.specs.Conditions.{IsOfFamily};
 ghost use Rattle.mf_convert.specs.Cells.{IsFirst, AreMade, parities_of, first_stripes, rows_of};
 
 use mf_check::Family;
@@ -22,7 +22,7 @@ pub(crate) fn cells_of(
     names: &[Name],
     bytes: &[u8],
 ) -> Result<Vec<Chunk>, Memory>
-    requires family { IsOfFamily family.now book.now }
+    requires family { IsOfFamily family.now.shape family.now.points book.now }
     requires bytes { length bytes.now ≡ book.now.bytes }
     requires names { All (IsFirst book.now) names.now }
     ensures { IfOk result (λ cells. cells.items ≡ map (cell book.now bytes.now) names.now) }
@@ -68,7 +68,7 @@ fn stripe_parities(
     family: &Family,
     pieces: &[Chunk],
 ) -> Result<Vec<Vec<Chunk>>, Memory>
-    requires family { IsOfFamily family.now book.now }
+    requires family { IsOfFamily family.now.shape family.now.points book.now }
     requires count { length pieces.now ≡ chunks_of book.now }
     requires lengths { All (λ chunk. length chunk ≡ book.now.chunk) pieces.now }
     ensures { (file : List ℕ) → pieces.now ≡ chunks book.now.chunk file → IfOk result

@@ -8,7 +8,7 @@ ghost use Rattle.mf_vault.specs.Actor.{Actor};
 ghost use Rattle.mf_vault.specs.Facts.{Facts, number, cell_of};
 ghost use Rattle.mf_vault.specs.Licence.{Does, did_all};
 ghost use Rattle.mf_convert.specs.Cells.{IsFirst};
-ghost use Rattle.mf_convert.specs.Conditions.{IsIdle, IsOfFamily};
+ghost use Rattle.mf_vault.specs.Conditions.{IsIdle, IsOfFamily};
 ghost use Rattle.mf_convert.specs.Create.{Creates, probes, bring, brings, first_names};
 ghost use Rattle.mf_convert.specs.Building.{IsFirstBuilder, IsMarked, AreMarked, AreSettled};
 ghost use Rattle.mf_convert.specs.Building.{Builds};
@@ -25,7 +25,8 @@ use std::alloc::Global;
 /// before the first probe alone, and then nothing has changed.
 pub fn create<A: Access>(alloc: Global, access: &mut A, family: &Family, bytes: &[u8]) -> Change
     requires idle { IsIdle (A.actor access.old) }
-    requires family { IsOfFamily family.now (A.actor access.old).facts.book }
+    requires family { IsOfFamily family.now.shape family.now.points
+        (A.actor access.old).facts.book }
     requires bytes { bytes.now ≡ (A.actor access.old).facts.bytes }
     requires reached { (A.actor access.old).cut ≡ no_servers }
     ensures licence { Creates result (A.actor access.old) (A.actor access.new) }
@@ -72,7 +73,8 @@ fn prepared<A: Access>(
     family: &Family,
     bytes: &[u8],
 ) -> Result<Plan, Memory>
-    requires family { IsOfFamily family.now (A.actor access.old).facts.book }
+    requires family { IsOfFamily family.now.shape family.now.points
+        (A.actor access.old).facts.book }
     requires bytes { bytes.now ≡ (A.actor access.old).facts.bytes }
     ensures stays { A.actor access.new ≡ A.actor access.old }
     ensures names { IfOk result (λ plan.

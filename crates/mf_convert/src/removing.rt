@@ -1,5 +1,5 @@
 //! Removing a file.
-ghost use Rattle.mf_convert.specs.Conditions.{IsIdle};
+ghost use Rattle.mf_vault.specs.Conditions.{IsIdle};
 ghost use Rattle.mf_convert.specs.Remove.{Removes};
 
 use crate::change::Change;

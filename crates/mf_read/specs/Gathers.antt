@@ -1,18 +1,11 @@
 -- What came of gathering a stripe.
 use Rattle.std.specs.Prelude.{◌≡◌, ℕ, List}
-use Rattle.mf_check.specs.Families.{Code}
 use Rattle.mf_decode.specs.declared.gathering.Gathered.{Gathered}
 use Rattle.mf_decode.specs.declared.gathering.Gathered.TheVariants.{All, Short, Memory}
-use Rattle.mf_places.specs.Facts.{BookFacts}
 use Rattle.mf_vault.specs.Actor.{Actor, Call}
 use Rattle.mf_vault.specs.Licence.{Does}
 use Rattle.mf_read.specs.Asking.{Ask, IsServed, IsShort, IsCut, gets}
 use Rattle.mf_read.specs.Stripes.{chunks_of_stripe}
-
--- the book is of the family's shape and points
-pub record IsOfFamily (family : Code) (b : BookFacts) : Type 0 where
-  pub shape : b.shape ≡ family.shape
-  pub points : b.points ≡ family.points
 
 -- an asking led from one actor to the other, and all chunks are the stripe's
 abbrev pub Gathers : (g j : ℕ) → Gathered → Actor → Actor → Type 0

@@ -1,6 +1,7 @@
 //! All data of a stripe, gathered through an access.
 ghost use Rattle.std.specs.Prelude.{◌≡◌, ◌<◌, ◌≤◌, length, None};
-ghost use Rattle.mf_read.specs.Gathers.{Gathers, IsOfFamily};
+ghost use Rattle.mf_read.specs.Gathers.{Gathers};
+ghost use Rattle.mf_vault.specs.Conditions.{IsOfFamily};
 ghost use Rattle.mf_read.specs.Groups.{IsReader};
 
 use crate::asker::{Asker, Begun};
@@ -19,7 +20,8 @@ fn gather_by<'a, A: Fetch, K: Begun>(
 ) -> Gathered
     requires start { K.start ≡ A.actor asker.old.access.now }
     requires going { asker.old.stopped ≡ None }
-    requires family { IsOfFamily family.now (A.actor asker.old.access.now).facts.book }
+    requires family { IsOfFamily family.now.shape family.now.points
+        (A.actor asker.old.access.now).facts.book }
     ensures gathers { Gathers asker.old.g asker.old.j result
         (A.actor asker.old.access.now) (A.actor asker.new.access.now) }
     ensures same_reference { asker.new.access.ghost_name ≡ asker.old.access.ghost_name }
@@ -40,7 +42,8 @@ fn gather_from<A: Fetch, K: Begun>(
     j: u32,
 ) -> Gathered
     requires start { K.start ≡ A.actor access.old }
-    requires family { IsOfFamily family.now (A.actor access.old).facts.book }
+    requires family { IsOfFamily family.now.shape family.now.points
+        (A.actor access.old).facts.book }
     requires reader { IsReader g j (A.actor access.old) }
     ensures { Gathers g j result (A.actor access.old) (A.actor access.new) }
 {
@@ -62,7 +65,8 @@ pub(crate) fn gather_stripe<A: Fetch>(
     g: u32,
     j: u32,
 ) -> Gathered
-    requires family { IsOfFamily family.now (A.actor access.old).facts.book }
+    requires family { IsOfFamily family.now.shape family.now.points
+        (A.actor access.old).facts.book }
     requires reader { IsReader g j (A.actor access.old) }
     ensures { Gathers g j result (A.actor access.old) (A.actor access.new) }
 {

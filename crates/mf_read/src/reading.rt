@@ -2,7 +2,7 @@
 ghost use Rattle.std.specs.Prelude.{◌≡◌, ◌+◌, ◌<◌, ◌≤◌, [], length, drop, IfOk};
 ghost use Rattle.mf_machine.specs.declared.answer.Slot.TheVariants.{Work};
 ghost use Rattle.mf_vault.specs.May.{MayPin};
-ghost use Rattle.mf_read.specs.Gathers.{IsOfFamily};
+ghost use Rattle.mf_vault.specs.Conditions.{IsOfFamily};
 ghost use Rattle.mf_vault.specs.Facts.{stages};
 ghost use Rattle.mf_read.specs.Groups.{IsReader, asks_in};
 ghost use Rattle.mf_read.specs.Reading.{Reads, bears};
@@ -67,7 +67,8 @@ fn read_stripe<A: Fetch>(
     j: u32,
     bytes: &mut Vec<u8>,
 ) -> Result<(), ReadOutcome>
-    requires family { IsOfFamily family.now (A.actor access.old).facts.book }
+    requires family { IsOfFamily family.now.shape family.now.points
+        (A.actor access.old).facts.book }
     requires reader { IsReader g j (A.actor access.old) }
     requires bytes { bytes.old.items ≡ bytes_before (A.actor access.old).facts g j }
     ensures { ReadsStripe g j result bytes.new.items (A.actor access.old) (A.actor access.new) }
@@ -90,7 +91,8 @@ fn read_stripes<A: Fetch>(
     family: &Family,
     g: u32,
 ) -> Result<Vec<u8>, ReadOutcome>
-    requires family { IsOfFamily family.now (A.actor access.old).facts.book }
+    requires family { IsOfFamily family.now.shape family.now.points
+        (A.actor access.old).facts.book }
     requires pinned { IsPinned g (A.actor access.old) }
     ensures { ReadsAll g result (A.actor access.old) (A.actor access.new) }
 {
@@ -108,7 +110,8 @@ fn read_stripes<A: Fetch>(
 
 // Reads generation g, which is pinned.
 fn read_generation<A: Fetch>(alloc: Global, access: &mut A, family: &Family, g: u32) -> ReadOutcome
-    requires family { IsOfFamily family.now (A.actor access.old).facts.book }
+    requires family { IsOfFamily family.now.shape family.now.points
+        (A.actor access.old).facts.book }
     requires pinned { IsPinned g (A.actor access.old) }
     ensures { ReadsOf g result (A.actor access.old) (A.actor access.new) }
 {
@@ -129,7 +132,8 @@ fn read_generation<A: Fetch>(alloc: Global, access: &mut A, family: &Family, g: 
 /// which chunks are missing, parities are asked for until as many are had.
 pub fn read<A: Fetch>(alloc: Global, access: &mut A, family: &Family) -> ReadOutcome
     requires free { MayPin Work (A.actor access.old) }
-    requires family { IsOfFamily family.now (A.actor access.old).facts.book }
+    requires family { IsOfFamily family.now.shape family.now.points
+        (A.actor access.old).facts.book }
     ensures { Reads result (A.actor access.old) (A.actor access.new) }
 {
     if let Some(g) = access.pinned(Slot::Hold) {

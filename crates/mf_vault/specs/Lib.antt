@@ -6,3 +6,4 @@ pub mod Licence
 pub mod Counting
 pub mod Resting
 pub mod Laws
+pub mod Conditions

@@ -9,13 +9,13 @@ use Rattle.mf_places.specs.Facts.{BookFacts}
 use Rattle.mf_places.proofs.Held.{parities_at-le-first}
 use Rattle.mf_vault.specs.Facts.{stages}
 use Rattle.mf_vault.specs.Actor.{Actor}
-use Rattle.mf_read.specs.Gathers.{IsOfFamily}
+use Rattle.mf_vault.specs.Conditions.{IsOfFamily}
 use Rattle.mf_read.proofs.Gathered.{gathers_by}
 use Rattle.mf_read.proofs.gathering.gather_by.Goals as goal
 
 -- the family has points for the stage
 points_taken : (start a : Actor) (family : Code) (g parities : ℕ) (read : List ℕ) → start ≡ a
-    → g < stages start.facts → IsOfFamily family a.facts.book → IsCode family
+    → g < stages start.facts → IsOfFamily family.shape family.points a.facts.book → IsCode family
     → parities ≡ parities_at a.facts.book.shape.stages g → read ≡ family.points → length (take parities read) ≡ parities
 points_taken start a family g parities read e low of kept p q =
     let shape = ap (λ (s : Chain). s.stages) of.shape in

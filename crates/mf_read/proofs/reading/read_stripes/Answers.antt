@@ -2,7 +2,7 @@ use Rattle.std.proofs.Common.{◌≡◌, ◌<◌, ℕ, List, ap, sym, ◌∙◌,
 use Rattle.mf_places.specs.Facts.{BookFacts}
 use Rattle.mf_vault.specs.Facts.{Facts}
 use Rattle.mf_vault.proofs.Doing.{facts_stay}
-use Rattle.mf_read.specs.Gathers.{IsOfFamily}
+use Rattle.mf_vault.specs.Conditions.{IsOfFamily}
 use Rattle.mf_read.specs.Reading.{stripes, AreServed}
 use Rattle.mf_read.specs.Steps.{bytes_before}
 use Rattle.mf_read.proofs.Stripewise.{Reading, no_room, none_read, one_read, ended_there, all_bytes, pinner_reads}
@@ -18,7 +18,7 @@ loop-j-init g c =
 
 pub read_stripe-requires-clause-family : goal.read_stripe-requires-clause-family
 read_stripe-requires-clause-family g c =
-    subst (λ (f : Facts). IsOfFamily c.args.family.now f.book) (sym
+    subst (λ (f : Facts). IsOfFamily c.args.family.now.shape c.args.family.now.points f.book) (sym
     (facts_stay c.loop-j.invariant.does)) c.requires.family
 
 pub read_stripe-requires-clause-reader : goal.read_stripe-requires-clause-reader

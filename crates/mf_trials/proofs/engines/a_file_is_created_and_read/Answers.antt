@@ -3,7 +3,6 @@ use Rattle.mf_vault.specs.Facts.{Facts}
 use Rattle.mf_vault.specs.Actor.{Actor}
 use Rattle.mf_vault.proofs.Doing.{facts_stay}
 use Rattle.mf_plain.specs.Resting.{Resting}
-use Rattle.mf_read.specs.Gathers.{IsOfFamily}
 use Rattle.mf_trials.proofs.engines.a_file_is_created_and_read.Goals as goal
 
 pub read-requires-clause-family : goal.read-requires-clause-family

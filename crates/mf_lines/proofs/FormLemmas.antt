@@ -2,7 +2,7 @@
 use Rattle.std.proofs.Common.{◌≡◌, ℕ, suc, ◌+◌, ◌<◌, Bool, true, false, not, ◌||◌, eqb, ltb, leb, List, [], ◌∷◌, ◌++◌}
 use Rattle.std.proofs.Common.{length, map, Option, Some, None, Result, Ok, Err, refl, sym, ap, ◌∙◌, subst, arith, inl}
 use Rattle.std.proofs.Common.{inr, ◌⊎◌}
-use Rattle.std.specs.Prelude.{codes, ok_or}
+use Rattle.std.specs.Prelude.{codes, ok_or, IfSome}
 use Rattle.std.specs.List.{find, position_or_len, list_any, join_with_byte}
 use Rattle.std.specs.Str.{bytes_eq}
 use Rattle.std.proofs.lemmas.Bool.{cases_Bool, cond-true, cond-false, not-false}
@@ -38,10 +38,10 @@ use Rattle.mf_lines.specs.Meaning.{SoFar, names_in, last_clients, verb_of, file_
 use Rattle.mf_lines.specs.Lines.{within, servers_form, chunk_form, is_above, numbers_in, points_in, points_form}
 use Rattle.mf_lines.specs.Lines.{stage_form, has_name, file_number, text_in, hex_in, pattern_in, content_in}
 use Rattle.mf_lines.specs.Lines.{file_limits, file_form, file_operand, act_in, form_in, may_follow, first_form}
-use Rattle.mf_lines.specs.Lines.{later_form, placed, form_at}
+use Rattle.mf_lines.specs.Lines.{later_form, placed, form_at, command_fits, lacks_server, server_operand}
 use Rattle.mf_lines.specs.declared.draft.Draft.{Draft}
 use Rattle.mf_lines.specs.Drafts.{IsNew}
-use Rattle.mf_lines.specs.LineTexts.{content_word, behind_content, name_at, behind_word, line_text}
+use Rattle.mf_lines.specs.LineTexts.{content_word, behind_content, name_at, behind_verb, behind_word, line_text}
 
 -- ---- what was had on the way to what is had
 
@@ -167,9 +167,9 @@ abbrev pub NewName : List (List ℕ) → Form → Type 0
 NewName names (says.File file) = has_name names file.name ≡ false
 NewName names form = Unit {0}
 
--- a command is on a file that stands before it
+-- a command is on a file that stands before it, or on none
 abbrev pub KnowsFile : List (List ℕ) → Form → Type 0
-KnowsFile names (says.Command act) = file_in act < length names
+KnowsFile names (says.Command act) = IfSome (file_in act) (λ file. file < length names)
 KnowsFile names form = Unit {0}
 
 record IsRead (names : List (List ℕ)) (first : LineWord) (ws : List (List ℕ)) (form : Form) : Type 0 where
@@ -362,30 +362,62 @@ operand_read : (so : SoFar) (ws : List (List ℕ)) (n : ℕ) → file_operand so
     → (ws ≡ name_at (names_in so.script.files) n ∷ []) × (n < length (names_in so.script.files))
 operand_read so ws n e =
     let a = bound (one_word ws) _ n e in
-    let b = bound (within ((leb 1024 so.commands, limit.Commands) ∷ []))
+    let b = bound (command_fits so)
     (λ _. ok_or (file_number (names_in so.script.files) a.value) kind.NoFile) n a.next in
     let found =
     file_is (names_in so.script.files) a.value n
     (some_is (file_number (names_in so.script.files) a.value) kind.NoFile n b.next) in
     (one_is ws a.value a.is ∙ ap (λ w. w ∷ []) (sym found.0), found.1)
 
+server_read : (so : SoFar) (ws : List (List ℕ)) (n : ℕ) → server_operand so ws ≡ Ok n → ws ≡ decimal_text n ∷ []
+server_read so ws n e =
+    let a = bound (one_word ws) _ n e in
+    let b = bound (number_in a.value) _ n a.next in
+    let c = bound (command_fits so) _ n b.next in
+    let d = bound (refuse (lacks_server so b.value) kind.NoServer) (λ _. Ok b.value) n c.next in
+    let is : b.value ≡ n = let x = d.next in cc in
+    one_is ws a.value a.is ∙ ap (λ w. w ∷ []) (number_is a.value b.value b.is ∙ ap decimal_text is)
+
 record IsAct (names : List (List ℕ)) (v : Verb) (ws : List (List ℕ)) (act : Act) : Type 0 where
   verb : verb_of act ≡ v
-  words : ws ≡ name_at names (file_in act) ∷ []
-  known : file_in act < length names
+  words : ws ≡ behind_verb names act
+  known : IfSome (file_in act) (λ file. file < length names)
+
+-- a command whose one operand is a file
+on_file : (so : SoFar) (v : Verb) (ws : List (List ℕ)) (make : ℕ → Act) (read : Act)
+    → ((n : ℕ) → verb_of (make n) ≡ v)
+    → ((n : ℕ) → behind_verb (names_in so.script.files) (make n) ≡ name_at (names_in so.script.files) n ∷ [])
+    → ((n : ℕ) → file_in (make n) ≡ Some n)
+    → (file_operand so ws >>= λ file. Ok (make file)) ≡ Ok read
+    → IsAct (names_in so.script.files) v ws read
+on_file so v ws make read verb words file e =
+    let a = bound (file_operand so ws) (λ file. Ok (make file)) read e in
+    let is : make a.value ≡ read = let n = a.next in cc in
+    let of = operand_read so ws a.value a.is in
+    subst (IsAct (names_in so.script.files) v ws) is (record {
+      verb = verb a.value;
+      words = of.0 ∙ sym (words a.value);
+      known = subst (λ o. IfSome o (λ n. n < length (names_in so.script.files))) (sym (file a.value)) of.1;
+    })
 
 act_read : (so : SoFar) (v : Verb) (ws : List (List ℕ)) (read : Act) → act_in so v ws ≡ Ok read
     → IsAct (names_in so.script.files) v ws read
 act_read so verb.Create ws read e =
-    let a = bound (file_operand so ws) (λ file. Ok (act.Create file)) read e in
-    let is : act.Create a.value ≡ read = let n = a.next in cc in
-    let file = operand_read so ws a.value a.is in
-    subst (IsAct (names_in so.script.files) verb.Create ws) is (record { verb = refl; words = file.0; known = file.1 })
+    on_file so verb.Create ws act.Create read (λ n. refl) (λ n. refl) (λ n. refl) e
 act_read so verb.Read ws read e =
-    let a = bound (file_operand so ws) (λ file. Ok (act.Read file no_servers)) read e in
-    let is : act.Read a.value no_servers ≡ read = let n = a.next in cc in
-    let file = operand_read so ws a.value a.is in
-    subst (IsAct (names_in so.script.files) verb.Read ws) is (record { verb = refl; words = file.0; known = file.1 })
+    on_file so verb.Read ws (λ n. act.Read n no_servers) read (λ n. refl) (λ n. refl) (λ n. refl) e
+act_read so verb.Hold ws read e = on_file so verb.Hold ws act.Hold read (λ n. refl) (λ n. refl) (λ n. refl) e
+act_read so verb.Release ws read e =
+    on_file so verb.Release ws act.Release read (λ n. refl) (λ n. refl) (λ n. refl) e
+act_read so verb.Remove ws read e = on_file so verb.Remove ws act.Remove read (λ n. refl) (λ n. refl) (λ n. refl) e
+act_read so verb.Lose ws read e =
+    let a = bound (server_operand so ws) (λ server. Ok (act.Lose server)) read e in
+    let is : act.Lose a.value ≡ read = let n = a.next in cc in
+    subst (IsAct (names_in so.script.files) verb.Lose ws) is (record {
+      verb = refl;
+      words = server_read so ws a.value a.is;
+      known = tt;
+    })
 
 command_read : (so : SoFar) (v : Verb) (ws : List (List ℕ)) (form : Form) → form_in so (word.Command v) ws ≡ Ok form
     → IsRead (names_in so.script.files) (word.Command v) ws form

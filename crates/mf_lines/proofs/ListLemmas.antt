@@ -2,8 +2,8 @@
 use Rattle.std.proofs.Common.{◌≡◌, ℕ, zero, suc, ◌+◌, ◌-◌, ◌<◌, ◌≤◌, Bool, true, false, ◌||◌, not, cond, eqb, ltb}
 use Rattle.std.proofs.Common.{leb, List, [], ◌∷◌, ◌++◌, length, take, drop, map, get_or, Option, Some, None, Result}
 use Rattle.std.proofs.Common.{Ok, Err, Bor, refl, sym, ap, ◌∙◌, inl, inr, arith}
-use Rattle.std.specs.List.{list_any, position, position_or_len, join_with_byte, slice_get}
-use Rattle.std.proofs.lemmas.Bool.{cases_Bool, eqb-true, le-leb, or_parts, ltb-false}
+use Rattle.std.specs.List.{list_any, find, position, position_or_len, join_with_byte, slice_get}
+use Rattle.std.proofs.lemmas.Bool.{cases_Bool, cond-false, eqb-true, le-leb, or_parts, ltb-false}
 use Rattle.std.specs.Prelude.{option_to_list, is_some}
 use Rattle.std.proofs.lemmas.List.{append_assoc, nil_from_length, length-map, take_rest}
 use Rattle.mf_text.specs.Words.{words_of}
@@ -35,6 +35,20 @@ pub position-map : {X Y : Type 0} (p : Y → Bool) (f : X → Y) (xs : List X)
     → position p (map f xs) ≡ position (λ x. p (f x)) xs
 position-map p f xs =
     (λ i. cond (ltb (position_or_len-map p f xs i) (length-map xs f i)) (Some (position_or_len-map p f xs i)) None)
+
+-- ---- what is found along a list
+
+find_next : {X : Type 0} (p : X → Bool) (xs : List X) (i : ℕ) (d : X) → i < length xs → p (get_or xs i d) ≡ false
+    → find p (drop i xs) ≡ find p (drop (suc i) xs)
+find_next p [] i d lt fails = absurd (omega arith)
+find_next p (x ∷ xs) zero d lt fails = cond-false _ _ _ fails
+find_next p (x ∷ xs) (suc i) d lt fails = find_next p xs i d (omega arith) fails
+
+pub find_step : {X : Type 0} (p : X → Bool) (xs : List X) (i : ℕ) (d : X) → i < length xs → p (get_or xs i d) ≡ false
+    → find p (drop i xs) ≡ find p (drop (i + 1) xs)
+find_step p xs i d lt fails =
+    let next : suc i ≡ i + 1 = omega arith in
+    find_next p xs i d lt fails ∙ ap (λ n. find p (drop n xs)) next
 
 -- ---- numbers of which none is above the greatest
 

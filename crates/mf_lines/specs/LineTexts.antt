@@ -5,12 +5,14 @@ use Rattle.mf_text.specs.Decimal.{decimal_text}
 use Rattle.mf_text.specs.Hex.{hex_text}
 use Rattle.mf_lines.specs.declared.parts.Content.{Content}
 use Rattle.mf_lines.specs.declared.parts.Content.TheVariants as given
+use Rattle.mf_lines.specs.declared.parts.Act.{Act}
+use Rattle.mf_lines.specs.declared.parts.Act.TheVariants as act
 use Rattle.mf_lines.specs.declared.words.ContentWord.{ContentWord}
 use Rattle.mf_lines.specs.declared.words.ContentWord.TheVariants as content
 use Rattle.mf_lines.specs.declared.forms.Form.{Form}
 use Rattle.mf_lines.specs.declared.forms.Form.TheVariants as says
 use Rattle.mf_lines.specs.Words.{word_text, content_text}
-use Rattle.mf_lines.specs.Meaning.{first_word, file_in}
+use Rattle.mf_lines.specs.Meaning.{first_word}
 
 -- the word that says how the bytes of a file are given
 abbrev pub content_word : Content → ContentWord
@@ -30,6 +32,15 @@ behind_content (given.Pattern n start) = decimal_text n ∷ decimal_text start �
 abbrev pub name_at : List (List ℕ) → ℕ → List ℕ
 name_at names n = slice_index_or names n []
 
+-- what stands behind the word of a command
+abbrev pub behind_verb : List (List ℕ) → Act → List (List ℕ)
+behind_verb names (act.Create file) = name_at names file ∷ []
+behind_verb names (act.Read file away) = name_at names file ∷ []
+behind_verb names (act.Hold file) = name_at names file ∷ []
+behind_verb names (act.Release file) = name_at names file ∷ []
+behind_verb names (act.Remove file) = name_at names file ∷ []
+behind_verb names (act.Lose server) = decimal_text server ∷ []
+
 -- what stands behind a line's first word
 abbrev pub behind_word : List (List ℕ) → Form → List (List ℕ)
 behind_word names says.Morph = codes "1" ∷ []
@@ -39,7 +50,7 @@ behind_word names (says.Points points) = map decimal_text points
 behind_word names (says.Stage stage) =
     decimal_text stage.width ∷ decimal_text stage.parities ∷ decimal_text stage.copies ∷ []
 behind_word names (says.File file) = file.name ∷ content_text (content_word file.content) ∷ behind_content file.content
-behind_word names (says.Command act) = name_at names (file_in act) ∷ []
+behind_word names (says.Command act) = behind_verb names act
 behind_word names form = []
 
 -- a line of this form: its first word and what stands behind it, with one space between each two

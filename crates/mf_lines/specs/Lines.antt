@@ -191,17 +191,38 @@ client_form so words = do
   _ ← no_words words
   Ok says.Client
 
+-- one command more passes no limit
+abbrev pub command_fits : SoFar → Result (Unit {0}) Kind
+command_fits so = within ((nat_le 1024 so.commands, limit.Commands) ∷ [])
+
 -- a command's operand: a file
 abbrev pub file_operand : SoFar → List (List ℕ) → Result ℕ Kind
 file_operand so words = do
   name ← one_word words
-  _ ← within ((nat_le 1024 so.commands, limit.Commands) ∷ [])
+  _ ← command_fits so
   ok_or (file_number (names_in so.script.files) name) kind.NoFile
+
+-- the script has no server of this number; before line 2, which says how many there are, none is missed
+abbrev pub lacks_server : SoFar → ℕ → Bool
+lacks_server so server = nat_le 2 so.lines && nat_le so.script.servers server
+
+-- a command's operand: a server
+abbrev pub server_operand : SoFar → List (List ℕ) → Result ℕ Kind
+server_operand so words = do
+  word ← one_word words
+  server ← number_in word
+  _ ← command_fits so
+  _ ← refuse (lacks_server so server) kind.NoServer
+  Ok server
 
 -- what a command does: its word, and its operands
 abbrev pub act_in : SoFar → Verb → List (List ℕ) → Result Act Kind
 act_in so verb.Create words = file_operand so words >>= λ file. Ok (act.Create file)
 act_in so verb.Read words = file_operand so words >>= λ file. Ok (act.Read file no_servers)
+act_in so verb.Hold words = file_operand so words >>= λ file. Ok (act.Hold file)
+act_in so verb.Release words = file_operand so words >>= λ file. Ok (act.Release file)
+act_in so verb.Remove words = file_operand so words >>= λ file. Ok (act.Remove file)
+act_in so verb.Lose words = server_operand so words >>= λ server. Ok (act.Lose server)
 
 -- ---- any line
 

@@ -22,11 +22,19 @@ use Rattle.mf_lines.specs.declared.forms.Form.TheVariants as says
 abbrev pub verb_of : Act → Verb
 verb_of (act.Create file) = verb.Create
 verb_of (act.Read file away) = verb.Read
+verb_of (act.Hold file) = verb.Hold
+verb_of (act.Release file) = verb.Release
+verb_of (act.Remove file) = verb.Remove
+verb_of (act.Lose server) = verb.Lose
 
--- the file that it is on
-abbrev pub file_in : Act → ℕ
-file_in (act.Create file) = file
-file_in (act.Read file away) = file
+-- the file that it is on, if it is on one
+abbrev pub file_in : Act → Option ℕ
+file_in (act.Create file) = Some file
+file_in (act.Read file away) = Some file
+file_in (act.Hold file) = Some file
+file_in (act.Release file) = Some file
+file_in (act.Remove file) = Some file
+file_in (act.Lose server) = None
 
 -- the word that a line of this form begins with
 abbrev pub first_word : Form → LineWord

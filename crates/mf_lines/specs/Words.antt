@@ -22,6 +22,10 @@ use Rattle.mf_lines.specs.declared.words.ContentWord.TheVariants as content
 abbrev pub verb_text : Verb → List ℕ
 verb_text verb.Create = codes "create"
 verb_text verb.Read = codes "read"
+verb_text verb.Hold = codes "hold"
+verb_text verb.Release = codes "release"
+verb_text verb.Remove = codes "remove"
+verb_text verb.Lose = codes "lose"
 
 -- how a line word is spelled
 abbrev pub word_text : LineWord → List ℕ
@@ -40,7 +44,8 @@ word_text word.End = codes "end"
 abbrev pub line_words : List LineWord
 line_words =
     word.Morph ∷ word.Servers ∷ word.Chunk ∷ word.Points ∷ word.Stage ∷ word.File ∷ word.Phase ∷ word.Client
-    ∷ word.Command verb.Create ∷ word.Command verb.Read ∷ word.End ∷ []
+    ∷ word.Command verb.Create ∷ word.Command verb.Read ∷ word.Command verb.Hold ∷ word.Command verb.Release
+    ∷ word.Command verb.Remove ∷ word.Command verb.Lose ∷ word.End ∷ []
 
 -- the line word that these bytes spell
 unfoldable pub word_of : List ℕ → Option LineWord

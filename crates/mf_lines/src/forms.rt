@@ -9,6 +9,7 @@ ghost use Rattle.mf_lines.specs.Lines.{Says, SaysList, within, is_above, numbers
 ghost use Rattle.mf_lines.specs.Lines.{servers_form, chunk_form, points_in, points_form};
 ghost use Rattle.mf_lines.specs.Lines.{stage_form};
 ghost use Rattle.mf_lines.specs.Lines.{phase_form, client_form, file_operand, act_in, form_in};
+ghost use Rattle.mf_lines.specs.Lines.{command_fits, lacks_server, server_operand};
 ghost use Rattle.mf_lines.specs.Lines.{first_form, form_at};
 ghost use Rattle.mf_lines.specs.Drafts.{so_in, IsDraft};
 
@@ -58,15 +59,24 @@ impl Act {
         match self {
             Act::Create(_) => Verb::Create,
             Act::Read { .. } => Verb::Read,
+            Act::Hold(_) => Verb::Hold,
+            Act::Release(_) => Verb::Release,
+            Act::Remove(_) => Verb::Remove,
+            Act::Lose(_) => Verb::Lose,
         }
     }
 
-    /// The file that it is on.
-    pub fn file(self) -> u32
+    /// The file that it is on, if it is on one.
+    pub fn file(self) -> Option<u32>
         ensures { result ≡ file_in self }
     {
         match self {
-            Act::Create(file) | Act::Read { file, .. } => file,
+            Act::Create(file)
+            | Act::Read { file, .. }
+            | Act::Hold(file)
+            | Act::Release(file)
+            | Act::Remove(file) => Some(file),
+            Act::Lose(_) => None,
         }
     }
 }
@@ -208,14 +218,40 @@ fn client_line(draft: &Draft, rest: Option<&[u8]>) -> Result<Form, Kind>
     Ok(Form::Client)
 }
 
+// Nothing, where one command more passes no limit.
+fn command_fits(draft: &Draft) -> Result<(), Kind>
+    ensures { result ≡ command_fits (so_in draft.now) }
+{
+    within(&[(draft.commands >= MAX_COMMANDS, LimitName::Commands)])
+}
+
 // A command's operand: a file.
 fn file_operand(draft: &Draft, rest: Option<&[u8]>) -> Result<u32, Kind>
     requires { IsDraft draft.now }
     ensures { result ≡ file_operand (so_in draft.now) (behind rest.entry) }
 {
     let name = last_word(rest)?;
-    within(&[(draft.commands >= MAX_COMMANDS, LimitName::Commands)])?;
+    command_fits(draft)?;
     draft.file_number(name).ok_or(Kind::NoFile)
+}
+
+// Whether no server has this number. Before line 2, which says how many there are, none is missed.
+fn lacks_server(draft: &Draft, server: u32) -> bool
+    ensures { result ≡ lacks_server (so_in draft.now) server }
+{
+    draft.lines >= 2 && server >= draft.servers
+}
+
+// A command's operand: a server.
+fn server_operand(draft: &Draft, rest: Option<&[u8]>) -> Result<u32, Kind>
+    ensures { result ≡ server_operand (so_in draft.now) (behind rest.entry) }
+{
+    let server = number(last_word(rest)?)?;
+    command_fits(draft)?;
+    if lacks_server(draft, server) {
+        return Err(Kind::NoServer);
+    }
+    Ok(server)
 }
 
 // What a command does, by its word and what stands behind it.
@@ -229,6 +265,10 @@ fn act_of(draft: &Draft, verb: Verb, rest: Option<&[u8]>) -> Result<Act, Kind>
             file: file_operand(draft, rest)?,
             away: Servers::none(),
         }),
+        Verb::Hold => Ok(Act::Hold(file_operand(draft, rest)?)),
+        Verb::Release => Ok(Act::Release(file_operand(draft, rest)?)),
+        Verb::Remove => Ok(Act::Remove(file_operand(draft, rest)?)),
+        Verb::Lose => Ok(Act::Lose(server_operand(draft, rest)?)),
     }
 }
 

@@ -7,6 +7,7 @@ mod files;
 mod forms;
 mod names;
 mod parts;
+mod texts;
 mod words;
 
 pub use draft::Draft;
@@ -16,4 +17,5 @@ pub use parts::{
     Act, Bytes, Client, Clients, Command, Commands, Content, FileLine, Item, Kind, LimitName,
     ScriptFault,
 };
+pub use texts::{name_of, push_act};
 pub use words::{ContentWord, LineWord, Verb};

@@ -139,11 +139,16 @@ pub struct FileLine {
     pub content: Content,
 }
 
-/// What a command does, on the file of this number. It can't reach the servers that are `away`.
+/// What a command does, on the file of this number, which can't reach the servers that are `away`;
+/// `Lose` is on the server of this number.
 #[derive(Clone, Copy, Debug, PartialEq, Eq)]
 pub enum Act {
     Create(u32),
     Read { file: u32, away: Servers },
+    Hold(u32),
+    Release(u32),
+    Remove(u32),
+    Lose(u32),
 }
 
 /// A command, and its line, from 1.

@@ -18,6 +18,10 @@ const MAX_NUMBER: u64 = 4_294_967_295;
 pub enum Verb {
     Create,
     Read,
+    Hold,
+    Release,
+    Remove,
+    Lose,
 }
 
 impl Verb {
@@ -28,6 +32,10 @@ impl Verb {
         match self {
             Verb::Create => b"create",
             Verb::Read => b"read",
+            Verb::Hold => b"hold",
+            Verb::Release => b"release",
+            Verb::Remove => b"remove",
+            Verb::Lose => b"lose",
         }
     }
 }
@@ -47,7 +55,7 @@ pub enum LineWord {
     End,
 }
 
-const LINE_WORDS: [LineWord; 11] = [
+const LINE_WORDS: [LineWord; 15] = [
     LineWord::Morph,
     LineWord::Servers,
     LineWord::Chunk,
@@ -58,6 +66,10 @@ const LINE_WORDS: [LineWord; 11] = [
     LineWord::Client,
     LineWord::Command(Verb::Create),
     LineWord::Command(Verb::Read),
+    LineWord::Command(Verb::Hold),
+    LineWord::Command(Verb::Release),
+    LineWord::Command(Verb::Remove),
+    LineWord::Command(Verb::Lose),
     LineWord::End,
 ];
 

@@ -23,8 +23,7 @@ act_text names act = line_text names (says.Command act)
 
 -- whether the operations of a command count among those of conversions
 abbrev pub converts : Act → Bool
-converts (act.Create file) = false
-converts (act.Read file away) = false
+converts any_other = false
 
 -- a command, and what came of it
 abbrev pub command_text : List (List ℕ) → Done → List ℕ

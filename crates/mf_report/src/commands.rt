@@ -3,7 +3,6 @@
 ghost use Rattle.std.specs.Prelude.{◌≡◌, ◌++◌, OnOk};
 ghost use Rattle.std.specs.List.{flat_map};
 ghost use Rattle.mf_lines.specs.Meaning.{names_in};
-ghost use Rattle.mf_lines.specs.LineTexts.{name_at};
 ghost use Rattle.mf_report.specs.Lines.{ended};
 ghost use Rattle.mf_report.specs.Commands.{place_text, act_text, converts, command_text};
 ghost use Rattle.mf_report.specs.Commands.{done_line, part_line, done_text};
@@ -12,7 +11,7 @@ use crate::counts::push_io;
 use crate::lines::push_pointed;
 use crate::outcomes::{push_change, push_outcome};
 use mf_client::{Done, Part, Place};
-use mf_script::{Act, FileLine};
+use mf_script::{Act, FileLine, name_of, push_act};
 use mf_text::push_decimal;
 use std::alloc::AllocError;
 
@@ -21,7 +20,12 @@ pub fn converts(act: &Act) -> bool
     ensures { result ≡ converts act.now }
 {
     match act {
-        Act::Create(_) | Act::Read { .. } => false,
+        Act::Create(_)
+        | Act::Read { .. }
+        | Act::Hold(_)
+        | Act::Release(_)
+        | Act::Remove(_)
+        | Act::Lose(_) => false,
     }
 }
 
@@ -33,26 +37,6 @@ fn push_place(out: &mut Vec<u8>, place: Place) -> Result<(), AllocError>
     push_decimal(out, u64::from(place.phase))?;
     push_pointed(out, place.client)?;
     push_pointed(out, place.command)
-}
-
-// The name of a file, or nothing where there is none of this number.
-fn name_of(files: &[FileLine], file: u32) -> &[u8]
-    ensures { result.now ≡ name_at (names_in files.now) file }
-{
-    match files.get(file as usize) {
-        Some(line) => line.name.as_slice(),
-        None => &[],
-    }
-}
-
-// A command, as a script has it.
-#[tactic(auto, unfolding(mf_lines::specs::LineTexts::line_text), using(std::proofs::lemmas::List::append_assoc))]
-fn push_act(out: &mut Vec<u8>, files: &[FileLine], act: Act) -> Result<(), AllocError>
-    ensures { OnOk result (out.new.items ≡ out.old.items ++ act_text (names_in files.now) act) }
-{
-    out.extend_from_slice(act.verb().text())?;
-    out.push(b' ')?;
-    out.extend_from_slice(name_of(files, act.file()))
 }
 
 // A command, and what came of it.

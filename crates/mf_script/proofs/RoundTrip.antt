@@ -1,6 +1,7 @@
 -- What is printed of a script that was read has the lines that it was read from.
 use Rattle.std.proofs.Common.{◌≡◌, ℕ, ◌+◌, ◌-◌, ◌<◌, ◌≤◌, true, get_or, eqb, List, [], ◌∷◌, ◌++◌, map, length, refl}
 use Rattle.std.proofs.Common.{sym, ap, ◌∙◌, subst, arith, inl, inr}
+use Rattle.std.specs.Prelude.{IfSome}
 use Rattle.std.specs.List.{AllByRecursion, slice_split, join_with_byte}
 use Rattle.std.specs.Str.Lines.{lines_of_parts, strip_carriage_return}
 use Rattle.std.proofs.lemmas.Bool.{cases_Bool, cond-true, cond-false}
@@ -8,6 +9,8 @@ use Rattle.std.proofs.lemmas.List.{append_assoc, append-nil, map_push, length-ap
 use Rattle.std.proofs.lemmas.List.Splits.{join_with_byte-slice_split}
 use Rattle.mf_text.specs.Lines.{lines_of, is_clean}
 use Rattle.mf_text.proofs.LineLemmas.{AreLines, lines_of-join}
+use Rattle.mf_lines.specs.declared.parts.Act.{Act}
+use Rattle.mf_lines.specs.declared.parts.Act.TheVariants as act
 use Rattle.mf_lines.specs.declared.words.Verb.{Verb}
 use Rattle.mf_lines.specs.declared.words.Verb.TheVariants as verb
 use Rattle.mf_lines.specs.declared.words.LineWord.{LineWord}
@@ -17,7 +20,7 @@ use Rattle.mf_lines.specs.declared.forms.Form.TheVariants as says
 use Rattle.mf_lines.specs.Words.{verb_text, word_text}
 use Rattle.mf_lines.specs.Meaning.{Script, SoFar, verb_of, file_in, first_word, names_in, with_form, so_before}
 use Rattle.mf_lines.specs.Meaning.{with_line, so_with, so_of}
-use Rattle.mf_lines.specs.LineTexts.{behind_word, line_text}
+use Rattle.mf_lines.specs.LineTexts.{behind_verb, behind_word, line_text}
 use Rattle.mf_lines.proofs.FormLemmas.{KnowsFile, LineIs, line_is}
 use Rattle.mf_script.specs.Texts.{MakeForms, HasForms}
 use Rattle.mf_script.specs.Printing.{script_text}
@@ -34,12 +37,20 @@ names_form : (s : Script) (n : ℕ) (form : Form)
 names_form s n (says.File file) = map_push (λ f. f.name) s.files file
 names_form s n form = sym (append-nil (names_in s.files))
 
+same_words : (names more : List (List ℕ)) (a : Act) → IfSome (file_in a) (λ file. file < length names)
+    → behind_verb names a ≡ behind_verb (names ++ more) a
+same_words names more (act.Create file) h = ap (λ w. w ∷ []) (sym (get_or_append_left names more [] file h))
+same_words names more (act.Read file away) h = ap (λ w. w ∷ []) (sym (get_or_append_left names more [] file h))
+same_words names more (act.Hold file) h = ap (λ w. w ∷ []) (sym (get_or_append_left names more [] file h))
+same_words names more (act.Release file) h = ap (λ w. w ∷ []) (sym (get_or_append_left names more [] file h))
+same_words names more (act.Remove file) h = ap (λ w. w ∷ []) (sym (get_or_append_left names more [] file h))
+same_words names more (act.Lose server) h = refl
+
 same_text : (names more : List (List ℕ)) (form : Form) → KnowsFile names form
     → line_text names form ≡ line_text (names ++ more) form
 unfolding line_text
 same_text names more (says.Command act) h =
-    ap (λ w. join_with_byte 32 (verb_text (verb_of act) ∷ w ∷ []))
-    (sym (get_or_append_left names more [] (file_in act) h))
+    ap (λ ws. join_with_byte 32 (verb_text (verb_of act) ∷ ws)) (same_words names more act h)
 same_text names more form h = refl
 
 -- ---- a line is never empty

@@ -3,6 +3,7 @@
 
 mod contents;
 mod laws;
+mod losses;
 mod printing;
 mod reading;
 mod script;
@@ -10,7 +11,7 @@ mod script;
 pub use contents::content_bytes;
 pub use mf_lines::{
     Act, Bytes, Client, Clients, Command, Commands, Content, FileLine, Item, Kind, LimitName,
-    ScriptFault, is_name,
+    ScriptFault, is_name, name_of, push_act,
 };
 pub use printing::print_script;
 pub use reading::read_script;

@@ -6,14 +6,14 @@ ghost use Rattle.mf_text.specs.Decimal.{decimal_text};
 ghost use Rattle.mf_text.specs.Lines.{lines_of};
 ghost use Rattle.mf_lines.specs.declared.forms.Form.TheVariants as says;
 ghost use Rattle.mf_lines.specs.Words.{word_text, content_text};
-ghost use Rattle.mf_lines.specs.Meaning.{names_in, verb_of, file_in};
-ghost use Rattle.mf_lines.specs.LineTexts.{name_at, line_text};
+ghost use Rattle.mf_lines.specs.Meaning.{names_in};
+ghost use Rattle.mf_lines.specs.LineTexts.{line_text};
 ghost use Rattle.mf_script.specs.Printing.{command_form, client_forms, item_forms, block_forms};
 ghost use Rattle.mf_script.specs.Printing.{next_line, lines_text, script_text};
 ghost use Rattle.mf_script.specs.Scripts.{block_of, script_with, IsScript};
 
 use crate::script::{NamedFamily, Script};
-use mf_lines::{Act, Client, Command, Content, ContentWord, FileLine, Item, LineWord};
+use mf_lines::{Act, Client, Command, Content, ContentWord, FileLine, Item, LineWord, push_act};
 use mf_shape::Stage;
 use mf_text::{push_decimal, push_hex};
 use std::alloc::{AllocError, Global};
@@ -108,24 +108,14 @@ fn push_file(out: &mut Vec<u8>, file: &FileLine) -> Result<(), AllocError>
     }
 }
 
-// The name of a file, or nothing where there is none of this number.
-fn name_of(files: &[FileLine], file: u32) -> &[u8]
-    ensures { result.now ≡ name_at (names_in files.now) file }
-{
-    match files.get(file as usize) {
-        Some(line) => line.name.as_slice(),
-        None => &[],
-    }
-}
-
 // The line of a command.
-#[tactic(auto, unfolding(mf_lines::specs::LineTexts::line_text), using(std::proofs::lemmas::List::append_assoc))]
+#[tactic(auto, using(std::proofs::lemmas::List::append_assoc))]
 fn push_command(out: &mut Vec<u8>, files: &[FileLine], act: Act) -> Result<(), AllocError>
     ensures { OnOk result
         (out.new.items ≡ out.old.items ++ next_line (names_in files.now) (says.Command act)) }
 {
-    begin(out, LineWord::Command(act.verb()))?;
-    push_word(out, name_of(files, act.file()))
+    out.push(b'\n')?;
+    push_act(out, files, act)
 }
 
 // The lines of the stages.

@@ -1,7 +1,10 @@
 //! Scripts.
 
+use crate::losses::add_items;
 use mf_check::Family;
 use mf_lines::{Bytes, FileLine, Item};
+use mf_places::Losses;
+use std::alloc::{AllocError, Global};
 use std::marker::Model;
 
 /// A family of codes, and its name.
@@ -40,9 +43,10 @@ impl Model for Script {
 }
 
 impl Script {
-    ghost use Rattle.std.specs.Prelude.{◌≡◌, ◌<◌, length, slice_index};
+    ghost use Rattle.std.specs.Prelude.{◌≡◌, ◌<◌, length, slice_index, IfOk};
     ghost use Rattle.mf_lines.specs.Meaning.{main_of};
     ghost use Rattle.mf_script.specs.Scripts.{code_of};
+    ghost use Rattle.mf_script.specs.Losses.{losses_of};
 
     /// The family, to which every file belongs.
     pub fn family(&self) -> &Family
@@ -79,5 +83,17 @@ impl Script {
         ensures { result.now ≡ self.now.items }
     {
         self.items.as_slice()
+    }
+
+    /// The lose lines up to the end of a phase, in the order of the script; phases are numbered
+    /// from 1. Fails only where memory runs out.
+    pub fn losses(&self, alloc: Global, phase: u32) -> Result<Losses, AllocError>
+        ensures { IfOk result (λ losses. losses ≡ losses_of self.now phase) }
+    {
+        let items = self.items.as_slice();
+        let many = items.len().min(phase as usize);
+        let mut losses = Losses::new(alloc);
+        add_items(&mut losses, &items[..many])?;
+        Ok(losses)
     }
 }

@@ -45,7 +45,7 @@ static UNREADABLE: [(u32, &[u8], &[u8]); 18] = [
     (1, b"end", b"header"),
 ];
 
-static UNKNOWN: [(u32, &[u8], &[u8]); 16] = [
+static UNKNOWN: [(u32, &[u8], &[u8]); 18] = [
     (2, b"server 6", b"unknown"),
     (2, b"serverss 6", b"unknown"),
     (3, b"", b"unknown"),
@@ -57,10 +57,12 @@ static UNKNOWN: [(u32, &[u8], &[u8]); 16] = [
     (8, b"tick 1", b"unknown"),
     (10, b"client", b"unknown"),
     (10, b"client 1", b"unknown"),
-    (10, b"hold a", b"unknown"),
+    (10, b"holds a", b"unknown"),
+    (10, b"remov a", b"unknown"),
     (11, b"rea", b"unknown"),
     (11, b"reads a", b"unknown"),
-    (11, b"lose 1", b"unknown"),
+    (11, b"loose 1", b"unknown"),
+    (11, b"released a", b"unknown"),
     (12, b"dump a", b"unknown"),
 ];
 
@@ -202,6 +204,45 @@ static ORDERS_BACK: [(u32, &[u8], &[u8]); 12] = [
     (12, b"file b empty", b"order"),
 ];
 
+static LOSSES: [(u32, &[u8], &[u8]); 18] = [
+    (10, b"lose\t1", b"text"),
+    (1, b"lose 1", b"header"),
+    (10, b"lose", b"arity"),
+    (10, b"lose 1 2", b"arity"),
+    (10, b"lose x 2", b"arity"),
+    (10, b"lose x", b"number"),
+    (10, b"lose 06", b"number"),
+    (10, b"lose ", b"number"),
+    (10, b"lose a", b"number"),
+    (2, b"lose x", b"number"),
+    (10, b"lose 4294967296", b"limit number"),
+    (2, b"lose 4294967296", b"limit number"),
+    (10, b"lose 6", b"noserver"),
+    (10, b"lose 4294967295", b"noserver"),
+    (8, b"lose 6", b"noserver"),
+    (3, b"lose 6", b"noserver"),
+    (2, b"lose 6", b"order"),
+    (8, b"lose 5", b"order"),
+];
+
+static HOLDS: [(u32, &[u8], &[u8]); 15] = [
+    (10, b"hold\ta", b"text"),
+    (10, b"hold", b"arity"),
+    (10, b"hold a 1", b"arity"),
+    (10, b"hold a without 1", b"arity"),
+    (10, b"hold b", b"nofile"),
+    (7, b"hold b", b"nofile"),
+    (8, b"hold a", b"order"),
+    (10, b"release", b"arity"),
+    (10, b"release b a", b"arity"),
+    (10, b"release b", b"nofile"),
+    (9, b"release a", b"order"),
+    (10, b"remove ", b"nofile"),
+    (10, b"remove a a", b"arity"),
+    (10, b"remove b", b"nofile"),
+    (9, b"remove a", b"order"),
+];
+
 // The script with line `n` replaced, and with further bytes at its end.
 fn edited(alloc: Global, n: u32, line: &[u8], more: &[u8]) -> Result<Vec<u8>, Fail> {
     let mut text = Vec::new(alloc);
@@ -333,6 +374,18 @@ fn limits_of_files_are_told(rt: HostRuntime) -> Result<(), Fail> {
 #[test]
 fn names_that_stand_twice_or_nowhere_are_told(rt: HostRuntime) -> Result<(), Fail> {
     assert_eq!(rt; untold(rt.alloc(), &NAMES)?, None);
+    Ok(())
+}
+
+#[test]
+fn faults_of_lose_lines_are_told(rt: HostRuntime) -> Result<(), Fail> {
+    assert_eq!(rt; untold(rt.alloc(), &LOSSES)?, None);
+    Ok(())
+}
+
+#[test]
+fn faults_of_commands_on_a_file_are_told(rt: HostRuntime) -> Result<(), Fail> {
+    assert_eq!(rt; untold(rt.alloc(), &HOLDS)?, None);
     Ok(())
 }
 

@@ -1,0 +1,55 @@
+//! The text of a command.
+
+ghost use Rattle.std.specs.Prelude.{◌≡◌, ◌∷◌, ◌++◌, OnOk};
+ghost use Rattle.mf_text.specs.Decimal.{decimal_text};
+ghost use Rattle.mf_lines.specs.declared.forms.Form.TheVariants as says;
+ghost use Rattle.mf_lines.specs.Meaning.{names_in};
+ghost use Rattle.mf_lines.specs.LineTexts.{name_at, line_text};
+
+use crate::parts::{Act, FileLine};
+use mf_text::push_decimal;
+use std::alloc::AllocError;
+
+/// The name of a file, or nothing where there is none of this number.
+pub fn name_of(files: &[FileLine], file: u32) -> &[u8]
+    ensures { result.now ≡ name_at (names_in files.now) file }
+{
+    match files.get(file as usize) {
+        Some(line) => line.name.as_slice(),
+        None => &[],
+    }
+}
+
+// A space, and the name of a file.
+fn push_name(out: &mut Vec<u8>, files: &[FileLine], file: u32) -> Result<(), AllocError>
+    ensures { OnOk result
+        (out.new.items ≡ out.old.items ++ 32 ∷ name_at (names_in files.now) file) }
+{
+    out.push(b' ')?;
+    out.extend_from_slice(name_of(files, file))
+}
+
+// A space, and a number.
+fn push_number(out: &mut Vec<u8>, n: u32) -> Result<(), AllocError>
+    ensures { OnOk result (out.new.items ≡ out.old.items ++ 32 ∷ decimal_text n) }
+{
+    out.push(b' ')?;
+    push_decimal(out, u64::from(n))
+}
+
+/// Writes a command, as a script has it. Fails only where memory runs out.
+#[tactic(auto, unfolding(crate::specs::LineTexts::line_text), using(std::proofs::lemmas::List::append_assoc))]
+pub fn push_act(out: &mut Vec<u8>, files: &[FileLine], act: Act) -> Result<(), AllocError>
+    ensures { OnOk result
+        (out.new.items ≡ out.old.items ++ line_text (names_in files.now) (says.Command act)) }
+{
+    out.extend_from_slice(act.verb().text())?;
+    match act {
+        Act::Create(file)
+        | Act::Read { file, .. }
+        | Act::Hold(file)
+        | Act::Release(file)
+        | Act::Remove(file) => push_name(out, files, file),
+        Act::Lose(server) => push_number(out, server),
+    }
+}

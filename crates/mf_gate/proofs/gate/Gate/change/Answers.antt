@@ -1,0 +1,11 @@
+use Rattle.std.proofs.Common.{sym, subst, ◌==◌}
+use prog.Atomic.{either}
+use Rattle.mf_gate.specs.Passes.{about}
+use Rattle.mf_gate.specs.Rows.{row_at}
+use Rattle.mf_gate.specs.Table.{Takes}
+use Rattle.mf_gate.proofs.gate.Gate.change.Goals as goal
+
+pub change_as-requires-clause-may : goal.change_as-requires-clause-may
+change_as-requires-clause-may c = let g = c.args.self.now in let me = c.args.place.now.me in
+    subst (λ i. Takes (about g) (row_at me c.args.deed) g.board.shared.table_id.slots c.args.place.now.id me i
+    (λ x. either (x == c.args.old) c.args.new x)) (sym c.word-word.ensures) c.requires.may

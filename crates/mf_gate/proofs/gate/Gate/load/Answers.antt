@@ -1,0 +1,10 @@
+use Rattle.std.proofs.Common.{sym, subst}
+use Rattle.mf_gate.specs.Passes.{about}
+use Rattle.mf_gate.specs.Rows.{row_at}
+use Rattle.mf_gate.specs.Table.{Takes}
+use Rattle.mf_gate.proofs.gate.Gate.load.Goals as goal
+
+pub load_as-requires-clause-may : goal.load_as-requires-clause-may
+load_as-requires-clause-may c = let g = c.args.self.now in let me = c.args.place.now.me in
+    subst (λ i. Takes (about g) (row_at me c.args.deed) g.board.shared.table_id.slots c.args.place.now.id me i
+    (λ x. x)) (sym c.word-word.ensures) c.requires.may

@@ -43,9 +43,9 @@ impl Model for Script {
 }
 
 impl Script {
-    ghost use Rattle.std.specs.Prelude.{◌≡◌, ◌<◌, length, slice_index, IfOk};
+    ghost use Rattle.std.specs.Prelude.{◌≡◌, ◌<◌, ℕ, List, length, slice_index, IfOk};
     ghost use Rattle.mf_lines.specs.Meaning.{main_of};
-    ghost use Rattle.mf_script.specs.Scripts.{code_of};
+    ghost use Rattle.mf_script.specs.Scripts.{code_of, IsScript};
     ghost use Rattle.mf_script.specs.Losses.{losses_of};
 
     /// The family, to which every file belongs.
@@ -78,9 +78,10 @@ impl Script {
         self.files.as_slice()
     }
 
-    /// The phases, in order.
+    /// The phases, in order. What is told besides is kept by every script.
     pub fn items(&self) -> &[Item]
-        ensures { result.now ≡ self.now.items }
+        ensures value { result.now ≡ self.now.items }
+        ensures kept { (text : List ℕ) × IsScript text self.now }
     {
         self.items.as_slice()
     }

@@ -1,9 +1,10 @@
 pub mod Asking
 pub mod Reading
 pub mod Laws
--- words of private functions
+-- what a stripe is asked from, and what came of it
 pub mod Groups
 pub mod Stripes
-pub mod Nobody
 pub mod Gathers
+-- words of private functions
+pub mod Nobody
 pub mod Steps

@@ -9,6 +9,7 @@ mod outcome;
 mod reading;
 mod short;
 
+pub use gathering::gather_stripe;
 pub use law::{read_has_one_result, short_has_lost};
 pub use mf_check::Family;
 pub use mf_vault::{Fetch, Name};

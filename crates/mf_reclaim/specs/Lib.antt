@@ -1,0 +1,5 @@
+-- What the public call promises.
+pub mod Reclaim
+pub mod Laws
+-- Words of private functions.
+pub mod Collecting

@@ -1,0 +1,38 @@
+//! What came of a repair.
+
+use mf_places::Name;
+use mf_read::LostNames;
+
+/// What came of a repair.
+#[derive(Debug, Drop)]
+pub enum RepairOutcome {
+    /// Every stripe was mended.
+    Repaired {
+        /// How many names were restored.
+        restored: u32,
+        /// How many names couldn't be reached when they were probed.
+        skipped: u32,
+    },
+    /// The file isn't created.
+    Absent,
+    /// The file is removed.
+    Removed,
+    /// Another actor has the right to build.
+    Busy,
+    /// A stripe of generation `g` has lost more chunks than it bears: all that were found lost.
+    DataLost {
+        g: u32,
+        stripe: u32,
+        lost: LostNames,
+    },
+    /// A stripe of generation `g` can't be had while a server can't be reached: the first of its
+    /// names that was found so.
+    Unreachable {
+        g: u32,
+        stripe: u32,
+        name: Name,
+        server: u32,
+    },
+    /// Memory ran out.
+    Memory,
+}

@@ -1,5 +1,6 @@
 -- Closes in turn: what each leaves, and what it shows.
-use Rattle.std.proofs.Common.{◌≡◌, ℕ, ◌+◌, ◌<◌, ◌≤◌, Bool, true, false, List, [], ◌∷◌, ◌++◌, length, get_or, refl, sym, ap}
+use Rattle.std.proofs.Common.{◌≡◌, ℕ, ◌+◌, ◌<◌, ◌≤◌, Bool, true, false, List, [], ◌∷◌, ◌++◌, length, get_or, refl}
+use Rattle.std.proofs.Common.{sym, ap}
 use Rattle.std.proofs.Common.{◌∙◌, subst, ⊎_elim, arith}
 use Rattle.std.proofs.lemmas.Bool.{false≢true, cases_lt}
 use Rattle.std.proofs.lemmas.List.{get_or_push, get_or_append_left, get_or_past, length_push}
@@ -32,9 +33,27 @@ leaves_then x y = record {
 }
 
 close_leaves : (g : ℕ) (c : Closed) (a : Actor) → IsIdle a → Leaves a (did (close g c) a)
-close_leaves g closed.Done a i = record { idle = record { right = i.right; work = i.work }; facts = refl; hold = refl; cut = refl }
-close_leaves g (closed.Pins n) a i = record { idle = record { right = i.right; work = i.work }; facts = refl; hold = refl; cut = refl }
-close_leaves g closed.Already a i = record { idle = record { right = i.right; work = i.work }; facts = refl; hold = refl; cut = refl }
+close_leaves g closed.Done a i = record {
+  idle = record { right = i.right; work = i.work };
+  facts = refl;
+  hold =
+      refl;
+  cut = refl;
+}
+close_leaves g (closed.Pins n) a i = record {
+  idle = record { right = i.right; work = i.work };
+  facts = refl;
+  hold =
+      refl;
+  cut = refl;
+}
+close_leaves g closed.Already a i = record {
+  idle = record { right = i.right; work = i.work };
+  facts = refl;
+  hold =
+      refl;
+  cut = refl;
+}
 
 pub leaves_closed : {g : ℕ} {c : Closed} {a b d : Actor} → Leaves a b → Goes (close g c) b d → Leaves a d
 leaves_closed {g = g} {c = c} {a = a} {b = b} x y =
@@ -49,7 +68,8 @@ close_number g closed.Already a = refl
 pub seen_closed : {end g : ℕ} {c : Closed} {a b : Actor} → HasSeen end a → Goes (close g c) a b → HasSeen end b
 seen_closed {end = end} {g = g} {c = c} {a = a} s x = record {
   stage = subst (λ (z : Actor). end ≤ stages z.facts) (sym x.becomes) s.stage;
-  number = let n = ap (λ (z : Actor). z.view.seen.number) x.becomes ∙ close_number g c a in let m = s.number in omega arith;
+  number = let n = ap (λ (z : Actor). z.view.seen.number) x.becomes
+      ∙ close_number g c a in let m = s.number in omega arith;
 }
 
 pub may_close : {end : ℕ} {a : Actor} (g : ℕ) → HasSeen end a → g < end → MayClose g a
@@ -83,7 +103,8 @@ shown_more {g = g} {c = c} {a = a} {b = b} answers s long e x =
       where
         before : (k : ℕ) → (k ≡ g → ⊥) → was_shut (answers ++ c ∷ []) k ≡ true → was_shut answers k ≡ true
         before k other h = ⊎_elim
-            (λ (low : k < g). sym (ap is_shut (get_or_append_left answers (c ∷ []) (closed.Pins 0) k (omega arith))) ∙ h)
+            (λ (low : k < g). sym (ap is_shut (get_or_append_left answers (c ∷ []) (closed.Pins 0) k
+            (omega arith))) ∙ h)
             (λ (high : g ≤ k). absurd (false≢true (sym (ap is_shut (get_or_past (answers ++ c ∷ []) k (closed.Pins 0)
             (let n = length_push answers c in omega arith))) ∙ h)))
             (cases_lt k g)

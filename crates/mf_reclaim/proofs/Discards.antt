@@ -1,5 +1,6 @@
 -- Discards in turn.
-use Rattle.std.proofs.Common.{◌≡◌, ℕ, ◌+◌, ◌<◌, ◌≤◌, ◌||◌, Bool, true, false, not, cond, List, [], ◌∷◌, ◌++◌, length, get_or}
+use Rattle.std.proofs.Common.{◌≡◌, ℕ, ◌+◌, ◌<◌, ◌≤◌, ◌||◌, Bool, true, false, not, cond, List, [], ◌∷◌, ◌++◌, length}
+use Rattle.std.proofs.Common.{get_or}
 use Rattle.std.proofs.Common.{filter, take, refl, sym, ap, ◌∙◌, subst, arith, length-append}
 use Rattle.std.specs.List.{range_with_len}
 use Rattle.std.proofs.lemmas.Bool.{false≢true}
@@ -39,7 +40,8 @@ free_shut b answers x g free low held =
     let n = length-range_with_len 0 q in
     let all = AllPass-from_list_all test (range_with_len 0 q) free in
     let here = All-get_or (λ k. test k ≡ true) (range_with_len 0 q) g 0 (omega arith) all in
-    by_holding (holds b g x) (was_shut answers g) (subst (λ k. test k ≡ true) (let z : get_or (range_with_len 0 q) g 0 ≡ g = omega arith in z) here) held
+    by_holding (holds b g x) (was_shut answers g) (subst (λ k. test k ≡ true) (let z : get_or
+    (range_with_len 0 q) g 0 ≡ g = omega arith in z) here) held
 
 pub may_discard : (answers : List Closed) (x : Name) (a : Actor) → HasName a.facts.book x
     → is_free a.facts.book answers x ≡ true → AreShown answers a → MayDiscard x a
@@ -50,8 +52,19 @@ may_discard answers x a had free shown = (
 )
 
 discard_leaves : (x : Name) (b : Bool) (a : Actor) → IsIdle a → Leaves a (did (discard x b) a)
-discard_leaves x true a i = record { idle = record { right = i.right; work = i.work }; facts = refl; hold = refl; cut = refl }
-discard_leaves x false a i = record { idle = record { right = i.right; work = i.work }; facts = refl; hold = refl; cut = refl }
+discard_leaves x true a i = record {
+  idle = record { right = i.right; work = i.work };
+  facts = refl;
+  hold = refl;
+  cut
+      = refl;
+}
+discard_leaves x false a i = record {
+  idle = record { right = i.right; work = i.work };
+  facts = refl;
+  hold = refl;
+  cut = refl;
+}
 
 pub leaves_discarded : {x : Name} {r : Bool} {a b d : Actor} → Leaves a b → Goes (discard x r) b d → Leaves a d
 leaves_discarded {x = x} {r = r} {a = a} {b = b} l y =
@@ -101,7 +114,8 @@ pub discarding_more : {answers : List Closed} {n dropped next : ℕ} {r : Bool} 
     → Discarding answers n dropped a b → n < count_of a.facts.book → x ≡ name_at a.facts.book n
     → is_free a.facts.book answers x ≡ true → next ≡ dropped + cond r 1 0 → Goes (discard x r) b d
     → Discarding answers (n + 1) next a d
-discarding_more {answers = answers} {n = n} {dropped = dropped} {next = next} {r = r} {a = a} {b = b} {d = d} x k low at free e g =
+discarding_more {answers = answers} {n = n} {dropped = dropped} {next = next} {r = r} {a = a} {b = b} {d = d} x k low
+    at free e g =
     let p = is_free a.facts.book answers in
     let so_far = filter p (take n (all_names a.facts.book)) in
     let names = filter-keeps a.facts.book p n x low at free in

@@ -1,5 +1,6 @@
 -- The entries of a reclaim are few: one a generation and one a name at most.
-use Rattle.std.proofs.Common.{◌≡◌, ℕ, ◌+◌, ◌^◌, ◌<◌, ◌≤◌, List, [], ◌∷◌, ◌++◌, length, length-append, filter, refl, sym, ap, ◌∙◌}
+use Rattle.std.proofs.Common.{◌≡◌, ℕ, ◌+◌, ◌^◌, ◌<◌, ◌≤◌, List, [], ◌∷◌, ◌++◌, length, length-append, filter, refl}
+use Rattle.std.proofs.Common.{sym, ap, ◌∙◌}
 use Rattle.std.proofs.Common.{subst, arith, suc, not, Bool, append_assoc}
 use Rattle.std.proofs.lemmas.List.Filters.{length-filter_both}
 use Rattle.mf_machine.specs.declared.answer.Closed.{Closed}
@@ -36,14 +37,16 @@ learns_none : {f : Facts} {end : ℕ} {first : List Call} → Learns f end first
 learns_none (licence.published gs g) = refl
 learns_none (licence.removed gs) = refl
 
-learns_low : {f : Facts} {end : ℕ} {first : List Call} (rest : List Call) {a b : Actor} → Learns f end first → f ≡ a.facts
+learns_low : {f : Facts} {end : ℕ} {first : List Call} (rest : List Call) {a b : Actor} → Learns f end first
+    → f ≡ a.facts
     → Does (first ++ rest) a b → end ≤ stages a.facts
 learns_low rest (licence.published gs g) e d = let low = d.fair.0.0 in omega arith
 learns_low rest (licence.removed gs) e d = let same = ap stages e in omega arith
 
 count_few : (b : BookFacts) → IsBook b → count_of b ≤ 300000
 count_few b book = let wide = max_width-le-limit book.shape.chain in
-    subst (λ n. n ≤ 300000) (sym (count_of-is b)) (first_in-le book.shape.chain (chunks_of b) (max_width b.shape.stages + 1)
+    subst (λ n. n ≤ 300000) (sym (count_of-is b)) (first_in-le book.shape.chain (chunks_of b)
+    (max_width b.shape.stages + 1)
     book.chunks (omega arith))
 
 passing_few : (p : Name → Bool) (xs : List Name) → length (filter p xs) ≤ length xs
@@ -51,7 +54,8 @@ passing_few p xs = let both = length-filter_both p (λ x. not (p x)) (λ x. refl
 
 names_few : (b : BookFacts) (answers : List Closed) → IsBook b → length (free_names b answers) ≤ 300000
 unfolding count_of
-names_few b answers book = let few = count_few b book in let less = passing_few (is_free b answers) (all_names b) in omega arith
+names_few b answers book = let few = count_few b book in let less = passing_few (is_free b answers)
+    (all_names b) in omega arith
 
 by_licence : {a b : Actor} {o : ReclaimOutcome} {calls : List Call} → IsBook a.facts.book → IsReclaim a.facts o calls
     → Does calls a b → length (entries_of calls) ≤ 300004

@@ -1,5 +1,6 @@
 -- The pin by which a reclaim learns the published number, and a reclaim from its parts.
-use Rattle.std.proofs.Common.{◌≡◌, ℕ, ◌+◌, ◌<◌, ◌≤◌, List, [], ◌∷◌, ◌++◌, length, filter, refl, sym, ap, ◌∙◌, subst, arith}
+use Rattle.std.proofs.Common.{◌≡◌, ℕ, ◌+◌, ◌<◌, ◌≤◌, List, [], ◌∷◌, ◌++◌, length, filter, refl, sym, ap, ◌∙◌, subst}
+use Rattle.std.proofs.Common.{arith}
 use Rattle.mf_machine.specs.declared.answer.Closed.{Closed}
 use Rattle.mf_machine.specs.declared.answer.Slot.TheVariants.{Work}
 use Rattle.mf_vault.specs.declared.answers.Pinned.TheVariants.{At, Absent, Removed}
@@ -34,15 +35,17 @@ learnt_at {g = g} {a = a} {o = o} {b = b} {d = d} idle stays (gs, first) y =
       calls = pin Work gs (At g) ∷ unpin Work ∷ [];
       learns = licence.published gs g;
       does = after x (one y);
-      leaves = subst (λ (z : Actor). Leaves a z) (sym (y.becomes ∙ ap (λ (z : Actor). did (unpin Work) z) x.becomes)) record {
-        idle = record { right = tried_right a.facts Work gs (At g) a.view ∙ idle.right; work = refl };
-        facts = refl;
-        hold = tried_hold a.facts gs (At g) a.view;
-        cut = refl;
-      };
+      leaves = subst (λ (z : Actor). Leaves a z) (sym (y.becomes ∙ ap (λ (z : Actor). did
+          (unpin Work) z) x.becomes)) record {
+            idle = record { right = tried_right a.facts Work gs (At g) a.view ∙ idle.right; work = refl };
+            facts = refl;
+            hold = tried_hold a.facts gs (At g) a.view;
+            cut = refl;
+          };
       seen = record {
         stage = let e = ap stages (facts_kept y) in omega arith;
-        number = let e = ap (λ (z : Actor). z.view.seen.number) (y.becomes ∙ ap (λ (z : Actor). did (unpin Work) z) x.becomes)
+        number = let e = ap (λ (z : Actor). z.view.seen.number) (y.becomes ∙ ap (λ (z : Actor). did
+            (unpin Work) z) x.becomes)
             ∙ tried_number a.facts Work gs (At g) a.view in omega arith;
       };
     }
@@ -53,7 +56,8 @@ learnt_removed {a = a} {o = o} {b = b} idle stays (gs, first) =
     let x = subst (λ (z : Actor). Goes (pin Work gs Removed) z b) stays first in
     record {
       calls = pin Work gs Removed ∷ [];
-      learns = subst (λ f. Learns a.facts (stages f) (pin Work gs Removed ∷ [])) (sym (facts_kept x)) (licence.removed gs);
+      learns = subst (λ f. Learns a.facts (stages f) (pin Work gs Removed ∷ [])) (sym (facts_kept x))
+          (licence.removed gs);
       does = one x;
       leaves = subst (λ (z : Actor). Leaves a z) (sym x.becomes) record {
         idle = record {
@@ -66,7 +70,8 @@ learnt_removed {a = a} {o = o} {b = b} idle stays (gs, first) =
       };
       seen = record {
         stage = omega arith;
-        number = let e = ap (λ (z : Actor). z.view.seen.number) x.becomes ∙ tried_number a.facts Work gs Removed a.view in
+        number = let e = ap (λ (z : Actor). z.view.seen.number) x.becomes
+            ∙ tried_number a.facts Work gs Removed a.view in
             let f = ap stages (facts_kept x) in omega arith;
       };
     }
@@ -101,7 +106,8 @@ memory_leaves {a = a} idle e = subst (λ (z : Actor). Leaves a z) (sym e) (leave
 pub reclaimed : {end : ℕ} {o : ReclaimOutcome} {a d e : Actor} → Learnt end a d → Collects end o d e → Reclaims o a e
 reclaimed {o = o} {a = a} {d = d} {e = e} l k = subst (λ u. Reclaims u a e) (sym k.outcome) record {
   calls = l.calls ++ (closes 0 k.answers ++ discards (free_names a.facts.book k.answers) k.changed);
-  licence = licence.reclaimed l.calls k.answers k.changed (subst (λ n. Learns a.facts n l.calls) (sym k.each) l.learns)
+  licence = licence.reclaimed l.calls k.answers k.changed (subst (λ n. Learns a.facts n l.calls)
+      (sym k.each) l.learns)
       (subst (λ f. length k.changed ≡ length (free_names f.book k.answers)) l.leaves.facts k.long);
   does = then l.does (subst (λ f. Does (closes 0 k.answers ++ discards (free_names f.book k.answers) k.changed) d e)
       l.leaves.facts k.does);

@@ -1,5 +1,6 @@
 -- Where the whole state is told, a reclaim has one result.
-use Rattle.std.proofs.Common.{◌≡◌, ◌≢◌, ℕ, ◌+◌, Bool, List, [], ◌∷◌, ◌++◌, length, filter, Some, refl, sym, ap, ◌∙◌, subst, arith}
+use Rattle.std.proofs.Common.{◌≡◌, ◌≢◌, ℕ, ◌+◌, Bool, List, [], ◌∷◌, ◌++◌, length, filter, Some, refl, sym, ap, ◌∙◌}
+use Rattle.std.proofs.Common.{subst, arith}
 use Rattle.mf_machine.specs.declared.answer.Closed.{Closed}
 use Rattle.mf_machine.specs.declared.answer.Slot.TheVariants.{Work}
 use Rattle.mf_machine.specs.Worlds.{World}
@@ -14,7 +15,8 @@ use Rattle.mf_vault.proofs.Once.{one_answer}
 use Rattle.mf_reclaim.specs.declared.outcome.ReclaimOutcome.{ReclaimOutcome}
 use Rattle.mf_reclaim.specs.declared.outcome.ReclaimOutcome.TheVariants as outcome
 use Rattle.mf_reclaim.specs.Reclaim as licence
-use Rattle.mf_reclaim.specs.Reclaim.{IsReclaim, Reclaims, Learns, closes, discards, free_names, is_done, count_true, pins_from}
+use Rattle.mf_reclaim.specs.Reclaim.{IsReclaim, Reclaims, Learns, closes, discards, free_names, is_done, count_true}
+use Rattle.mf_reclaim.specs.Reclaim.{pins_from}
 use Rattle.mf_reclaim.specs.Laws.{ReclaimsOnce}
 
 -- the first call, and the others
@@ -85,7 +87,8 @@ answers_once g (c ∷ cs) (d ∷ ds) r q {a = a} w m e x y =
 -- two pins are the same
 pins : {gs hs : List ℕ} {p q : Pinned} {cs ds : List Call} {a b c : Actor} {w : World} → a.whole ≡ Some w
     → Does (pin Work gs p ∷ cs) a b → Does (pin Work hs q ∷ ds) a c → (gs ≡ hs) × (p ≡ q)
-pins {gs = gs} {hs = hs} {p = p} {q = q} {a = a} {w = w} e x y = one_answer.pin a _ _ w Work gs hs p q e (first x) (first y)
+pins {gs = gs} {hs = hs} {p = p} {q = q} {a = a} {w = w} e x y = one_answer.pin a _ _ w Work gs hs p q e (first x)
+    (first y)
 
 at_absent : (g : ℕ) → At g ≡ Absent → ⊥
 at_absent g e = let z : At g ≡ Absent = e in cc
@@ -142,7 +145,8 @@ learns_once r q {a = a} w (licence.removed gs) (licence.removed hs) e x y =
       right = rest_of (λ j. pin Work (k.0 j) Removed) y;
     }
 
-not_absent : {f : Facts} {m : ℕ} {xs : List Call} {ms : List ℕ} (r : List Call) {a b c : Actor} {w : World} → Learns f m xs
+not_absent : {f : Facts} {m : ℕ} {xs : List Call} {ms : List ℕ} (r : List Call) {a b c : Actor} {w : World}
+    → Learns f m xs
     → a.whole ≡ Some w → Does (xs ++ r) a b → Does (pin Work ms Absent ∷ []) a c → ⊥
 not_absent r (licence.published gs g) e x y = at_absent g (pins e x y).1
 not_absent r (licence.removed gs) e x y = removed_absent (pins e x y).1
@@ -154,9 +158,11 @@ both : (f : Facts) (xs ys : List Call) (cs ds : List Closed) (bs es : List Bool)
     → Does (ys ++ (closes 0 ds ++ discards (free_names f.book ds) es)) a c
     → (xs ≡ ys) × (cs ≡ ds) × (bs ≡ es)
 both f xs ys cs ds bs es {c = c} {w = w} lx ly m n e x y =
-    let l = learns_once (closes 0 cs ++ discards (free_names f.book cs) bs) (closes 0 ds ++ discards (free_names f.book ds) es)
+    let l = learns_once (closes 0 cs ++ discards (free_names f.book cs) bs) (closes 0 ds ++ discards
+    (free_names f.book ds) es)
     w lx ly e x y in
-    let k = answers_once 0 cs ds (discards (free_names f.book cs) bs) (discards (free_names f.book ds) es) l.world l.end l.told
+    let k = answers_once 0 cs ds (discards (free_names f.book cs) bs) (discards
+    (free_names f.book ds) es) l.world l.end l.told
     l.left l.right in
     let b = k.1 in (
       l.calls,

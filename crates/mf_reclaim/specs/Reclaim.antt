@@ -49,7 +49,8 @@ pins_from g (c ∷ answers) = pins_of g c ++ pins_from (g + 1) answers
 
 -- Each generation that holds the name was answered Done or Already.
 abbrev pub is_free : BookFacts → List Closed → Name → Bool
-is_free b answers x = list_all (λ g. not (holds b g x) || was_shut answers g) (range_with_len 0 (length b.shape.stages))
+is_free b answers x = list_all (λ g. not (holds b g x) || was_shut answers g) (range_with_len 0
+    (length b.shape.stages))
 
 -- The names of which that is so, in order.
 abbrev pub free_names : BookFacts → List Closed → List Name
@@ -65,7 +66,8 @@ discards (x ∷ xs) (b ∷ changed) = discard x b ∷ discards xs changed
 abbrev pub count_true : List Bool → ℕ
 count_true changed = length (filter (λ b. b) changed)
 
--- The pin by which the published number is learnt, freed at once, and the end of the generations below it: all of them
+-- The pin by which the published number is learnt, freed at once, and the end of the generations below it: all of
+-- them
 -- where the file is removed.
 pub data Learns (f : Facts) : (end : ℕ) → List Call → Type 0 where
   published : (missed : List ℕ) (g : ℕ) → Learns f g (pin Work missed (pinned.At g) ∷ unpin Work ∷ [])

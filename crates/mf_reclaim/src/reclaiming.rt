@@ -46,8 +46,8 @@ struct Plan {
     pinned: Vec<(u32, u32)>,
 }
 
-// The plan, with room in the ledger for an entry a name and an entry a stage. The only error is want
-// of memory.
+// The plan, with room in the ledger for an entry a name and an entry a stage. The only error is
+// want of memory.
 fn prepared<A: Access>(alloc: Global, access: &mut A) -> Result<Plan, Memory>
     ensures stays { A.actor access.new ≡ A.actor access.old }
     ensures answers { IfOk result (λ plan. (plan.answers.items ≡ [])

@@ -1,0 +1,11 @@
+mod Staying
+mod Listing
+mod Probed
+mod Restored
+mod Same
+mod Rising
+mod Telling
+mod Placed
+pub mod Bounded
+mod Mended
+mod OneRepair

@@ -1,7 +1,7 @@
 -- What the parts of a repair come to.
 use Rattle.std.specs.Prelude.{◌≡◌, ◌≢◌, ℕ, zero, suc, ◌+◌, ◌*◌, ◌<◌, ◌≤◌, Bool, true, false, List, [], ◌∷◌, ◌++◌}
-use Rattle.std.specs.Prelude.{length, map, take, drop, Option, Some, None, Result, Ok, Err}
-use Rattle.std.specs.List.{AllPairs}
+use Rattle.std.specs.Prelude.{length, map, take, drop, filter, cond, All, Option, Some, None, Result, Ok, Err}
+use Rattle.std.specs.List.{AllPairs, list_any}
 use Rattle.std.specs.declared.alloc.AllocError.{AllocError}
 use Rattle.std.specs.declared.vec.Vec.{Vec}
 use Rattle.std.specs.declared.alloc.Global.{Global}
@@ -32,7 +32,8 @@ use Rattle.mf_read.specs.Reading.{stripes}
 use Rattle.mf_repair.specs.declared.cells.Made.{Made}
 use Rattle.mf_repair.specs.declared.outcome.RepairOutcome.{RepairOutcome}
 use Rattle.mf_repair.specs.declared.outcome.RepairOutcome.TheVariants as outcome
-use Rattle.mf_repair.specs.Repair.{probes, lost_names, restores, once, IsMended, AreMended, IsEnd, IsRepairOf}
+use Rattle.mf_repair.specs.Repair.{probes, lost_names, restores, once, same_name, IsMended, AreMended, IsEnd}
+use Rattle.mf_repair.specs.Repair.{IsRepairOf}
 
 -- The actor has the right, and generation g pinned in the Work slot.
 pub record IsMender (g : ℕ) (a : Actor) : Type 0 where
@@ -74,7 +75,7 @@ pub record Probes (g j : ℕ) (lost : List Name) (a b : Actor) : Type 0 where
   pub states : List State
   pub long : length states ≡ length (stripe_names a.facts.book g j)
   pub names : lost ≡ lost_names (stripe_names a.facts.book g j) states
-  pub found : Rattle.std.specs.Prelude.All (IsLostOf g j b) lost
+  pub found : All (IsLostOf g j b) lost
   pub does : Does (probes (stripe_names a.facts.book g j) states) a b
   pub stays : Stays a b
 
@@ -126,6 +127,11 @@ lost_name e = first_of (lost_in (entry_told e))
 abbrev pub away_name : Entry → Option (Name × ℕ)
 away_name e = first_of (away_in (entry_told e))
 
+-- The list with what was found, where its name isn't among those before.
+abbrev pub with_found : List (Name × ℕ) → Option (Name × ℕ) → List (Name × ℕ)
+with_found xs None = xs
+with_found xs (Some y) = cond (list_any (λ (x : Name × ℕ). same_name x.0 y.0) xs) xs (xs ++ y ∷ [])
+
 -- The entries from number `from` on tell more names lost than generation g bears, or a name that can't be reached.
 abbrev pub LacksNames : (g from : ℕ) → Actor → Type 0
 LacksNames g from a = let found = told_by (drop from a.entries) in away_in found ≡ []
@@ -133,7 +139,8 @@ LacksNames g from a = let found = told_by (drop from a.entries) in away_in found
 
 -- What a short asking comes to, where so many lost names are borne.
 pub data IsShortOf (most g j : ℕ) (found : List Ask) : RepairOutcome → Type 0 where
-  data_lost : most < length (once (lost_in found)) → IsShortOf most g j found (outcome.DataLost g j (once (lost_in found)))
+  data_lost : most < length (once (lost_in found)) → IsShortOf most g j found (outcome.DataLost g j (once
+      (lost_in found)))
   unreachable : (x : Name) (server : ℕ) (others : List (Name × ℕ)) → length (once (lost_in found)) ≤ most
       → away_in found ≡ (x, server) ∷ others → IsShortOf most g j found (outcome.Unreachable g j x server)
   no_memory : IsShortOf most g j found outcome.Memory
@@ -148,10 +155,10 @@ is_skip (entry.Chunk op.Probe x (answer.Away server)) = true
 is_skip e = false
 
 abbrev pub restore_entries : List Entry → ℕ
-restore_entries entries = length (Rattle.std.specs.Prelude.filter is_restore entries)
+restore_entries entries = length (filter is_restore entries)
 
 abbrev pub skip_entries : List Entry → ℕ
-skip_entries entries = length (Rattle.std.specs.Prelude.filter is_skip entries)
+skip_entries entries = length (filter is_skip entries)
 
 -- ---- stripes
 

@@ -1,5 +1,6 @@
 -- What a repair does.
-use Rattle.std.specs.Prelude.{◌≡◌, ℕ, zero, suc, ◌+◌, ◌<◌, ◌≤◌, ◌==◌, ◌&&◌, Bool, true, false, not, List, [], ◌∷◌, ◌++◌}
+use Rattle.std.specs.Prelude.{◌≡◌, ℕ, zero, suc, ◌+◌, ◌<◌, ◌≤◌, ◌==◌, ◌&&◌, Bool, true, false, not, List, [], ◌∷◌}
+use Rattle.std.specs.Prelude.{◌++◌}
 use Rattle.std.specs.Prelude.{length, take, filter}
 use Rattle.mf_machine.specs.declared.answer.Slot.TheVariants.{Work}
 use Rattle.mf_machine.specs.declared.answer.State.{State}
@@ -137,7 +138,8 @@ pub data IsCutMend (f : Facts) (g j : ℕ) : List Call → Type 0 where
       → IsCutMend f g j (probes (stripe_names f.book g j) states
       ++ (gets f asks ++ restores (take n (lost_names (stripe_names f.book g j) states))))
 
--- The calls with which a repair of generation g ends at stripe j: a short asking, where more names were found Lost than
+-- The calls with which a repair of generation g ends at stripe j: a short asking, where more names were found Lost
+-- than
 -- the generation bears; one where no more were, and a name was found Away; or want of memory.
 pub data IsEnd (f : Facts) (g j : ℕ) : RepairOutcome → List Call → Type 0 where
   data_lost : (calls : List Call) → IsShortMend f g j calls

@@ -2,6 +2,7 @@
 ghost use Rattle.std.specs.Prelude.{◌≡◌, ◌+◌, ◌<◌, ◌≤◌, [], ◌∷◌, ◌++◌, IfOk};
 ghost use Rattle.std.specs.Prelude.{length, vec_capacity};
 ghost use Rattle.mf_places.specs.Generations.{stripe_names};
+ghost use Rattle.mf_repair.specs.Repair.{if_lost};
 ghost use Rattle.mf_repair.specs.Mending.{IsMender, HasStripe, Stays, Probes, ProbesSome};
 
 use mf_vault::{Fetch, Memory, Name, State};
@@ -41,6 +42,19 @@ fn append(lost: &mut Vec<Name>, name: Name)
     }
 }
 
+// Appends the name where its probe was answered Lost, within the room that is there.
+fn keep_lost(lost: &mut Vec<Name>, name: Name, state: State)
+    requires { length lost.old.items < vec_capacity lost.old }
+    ensures items { lost.new.items ≡ lost.old.items ++ if_lost name state }
+    ensures capacity { vec_capacity lost.old ≤ vec_capacity lost.new }
+    ensures few { length lost.new.items ≤ length lost.old.items + 1 }
+{
+    match state {
+        State::Lost(_) => append(lost, name),
+        State::Unborn | State::Here | State::Away(_) => {}
+    }
+}
+
 // Probes the names of stripe j of generation g, in order, and appends those that are lost.
 fn probe_all<A: Fetch>(access: &mut A, g: u32, j: u32, names: &[Name], lost: &mut Vec<Name>)
     requires mender { IsMender g (A.actor access.old) }
@@ -51,14 +65,13 @@ fn probe_all<A: Fetch>(access: &mut A, g: u32, j: u32, names: &[Name], lost: &mu
     ensures { Probes g j lost.new.items (A.actor access.old) (A.actor access.new) }
 {
     for name in names {
-        if let State::Lost(_) = access.probe(*name) {
-            append(lost, *name);
-        }
+        let state = access.probe(*name);
+        keep_lost(lost, *name, state);
     }
 }
 
-// Probes each name of stripe j of generation g, in order: the names that are lost. The only error is
-// want of memory, and then nothing was probed.
+// Probes each name of stripe j of generation g, in order: the names that are lost. The only error
+// is want of memory, and then nothing was probed.
 pub(crate) fn probe_stripe<A: Fetch>(
     alloc: Global,
     access: &mut A,

@@ -114,20 +114,13 @@ fn repair_stripe<A: Fetch>(
     let Ok(lost) = probe_stripe(alloc, access, g, j) else {
         return Err(RepairOutcome::Memory);
     };
+    let lost = lost.as_slice();
     if lost.is_empty() {
         return Ok(());
     }
     match gather_stripe(alloc, access, family, g, j) {
         Gathered::All(chunks) => {
-            match restore_stripe(
-                alloc,
-                access,
-                family,
-                g,
-                j,
-                lost.as_slice(),
-                chunks.as_slice(),
-            ) {
+            match restore_stripe(alloc, access, family, g, j, lost, chunks.as_slice()) {
                 Ok(()) => Ok(()),
                 Err(_) => Err(RepairOutcome::Memory),
             }

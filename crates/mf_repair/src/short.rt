@@ -7,7 +7,7 @@ ghost use Rattle.mf_vault.specs.Facts.{stages};
 ghost use Rattle.mf_places.specs.declared.Name.{Name};
 ghost use Rattle.mf_repair.specs.Repair.{once, same_name};
 ghost use Rattle.mf_repair.specs.Mending.{told_by, first_of, lost_name, away_name};
-ghost use Rattle.mf_repair.specs.Mending.{IsShortOf, LacksNames};
+ghost use Rattle.mf_repair.specs.Mending.{IsShortOf, LacksNames, with_found};
 
 use crate::outcome::RepairOutcome;
 use mf_read::LostNames;
@@ -68,17 +68,29 @@ fn has(names: &[(Name, u32)], name: Name) -> bool
     names.iter().any(|x| is_same(x.0, name))
 }
 
+// Appends what was found, where its name isn't among those before. The only error is want of
+// memory.
+fn keep_once(items: &mut Vec<(Name, u32)>, found: Option<(Name, u32)>) -> Result<(), Memory>
+    ensures { IfOk result (λ _. items.new.items ≡ with_found items.old.items found) }
+{
+    match found {
+        Some(found) => {
+            if !has(items, found.0) {
+                items.push(found)?;
+            }
+            Ok(())
+        }
+        None => Ok(()),
+    }
+}
+
 // The names that these entries found lost, each once, in the order found.
 fn lost_names(alloc: Global, entries: &[Entry]) -> Result<LostNames, Memory>
     ensures { IfOk result (λ names. names ≡ once (lost_in (told_by entries.now))) }
 {
     let mut items = Vec::new(alloc);
     for entry in entries {
-        if let Some(found) = lost(*entry) {
-            if !has(&items, found.0) {
-                items.push(found)?;
-            }
-        }
+        keep_once(&mut items, lost(*entry))?;
     }
     Ok(LostNames::new(items))
 }

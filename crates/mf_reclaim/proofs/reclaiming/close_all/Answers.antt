@@ -1,6 +1,7 @@
 use Rattle.std.proofs.Common.{◌+◌, length, ap, ◌∙◌, arith}
 use Rattle.std.proofs.lemmas.List.{length_push}
-use Rattle.mf_reclaim.proofs.Closings.{closed_more, shown_more, seen_closed, leaves_closed, may_close, shown_none, leaves_nothing}
+use Rattle.mf_reclaim.proofs.Closings.{closed_more, shown_more, seen_closed, leaves_closed, may_close, shown_none}
+use Rattle.mf_reclaim.proofs.Closings.{leaves_nothing}
 use Rattle.mf_reclaim.proofs.reclaiming.close_all.Goals as goal
 
 pub loop-g-preserved : goal.loop-g-preserved

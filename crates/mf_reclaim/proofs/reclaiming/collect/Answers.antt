@@ -10,7 +10,8 @@ use Rattle.mf_reclaim.proofs.reclaiming.collect.Goals as goal
 pub returns-clause-collects : goal.returns-clause-collects
 returns-clause-collects g c =
     let is = c.as_slice-answers.ensures.value in
-    collected c.close_all.new.answers.items c.close_all.ensures.long c.close_all.ensures.does c.close_all.ensures.leaves
+    collected c.close_all.new.answers.items c.close_all.ensures.long c.close_all.ensures.does
+    c.close_all.ensures.leaves
     (subst (λ l. Discards l c.discard_all-dropped.result (g.A.Access.actor c.close_all.new.access)
     (g.A.Access.actor c.discard_all-dropped.new.access)) is c.discard_all-dropped.ensures.discards)
     (c.count_done.ensures ∙ ap (λ l. length (filter is_done l)) is)

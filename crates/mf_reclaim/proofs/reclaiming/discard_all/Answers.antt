@@ -2,9 +2,12 @@ use Rattle.std.proofs.Common.{◌≡◌, ◌<◌, ◌+◌, true, false, cond, ap
 use Rattle.mf_places.specs.Facts.{BookFacts}
 use Rattle.mf_places.specs.Names.{HasName, count_of, name_at}
 use Rattle.mf_reclaim.specs.Reclaim.{is_free}
-use Rattle.mf_reclaim.proofs.Discards.{may_discard, leaves_discarded, shown_discarded, discarding_more, discarding_less, discarding_all}
+use Rattle.mf_reclaim.proofs.Discards.{may_discard, leaves_discarded, shown_discarded, discarding_more}
+use Rattle.mf_reclaim.proofs.Discards.{discarding_less, discarding_all}
 use Rattle.mf_reclaim.proofs.reclaiming.discard_all.Goals as goal
-use Rattle.mf_reclaim.proofs.reclaiming.discard_all.Goals.{then-is_free+then-discard, else-is_free, else-is_free-via-then-is_free+else-discard, else-is_free-via-else-is_free}
+use Rattle.mf_reclaim.proofs.reclaiming.discard_all.Goals.{then-is_free+then-discard, else-is_free}
+use Rattle.mf_reclaim.proofs.reclaiming.discard_all.Goals.{else-is_free-via-then-is_free+else-discard}
+use Rattle.mf_reclaim.proofs.reclaiming.discard_all.Goals.{else-is_free-via-else-is_free}
 
 pub discard-requires-clause-may : goal.discard-requires-clause-may
 discard-requires-clause-may g c =
@@ -22,8 +25,10 @@ loop-n-preserved g c =
     let facts = ap (λ f. f.book) v.leaves.facts in
     let first = c.book-in-loop-n.ensures ∙ facts in
     let second = c.book-in-loop-n-2.ensures ∙ facts in
-    let below : c.loop-n.n < count_of a.facts.book = let e = c.count-n-end.ensures.value ∙ ap count_of c.book.ensures in let t = c.loop-n-test.true in omega arith in
-    let at : x ≡ name_at a.facts.book c.loop-n.n = c.name-name.ensures.value ∙ ap (λ (b : BookFacts). name_at b c.loop-n.n) first in
+    let below : c.loop-n.n < count_of a.facts.book = let e = c.count-n-end.ensures.value
+    ∙ ap count_of c.book.ensures in let t = c.loop-n-test.true in omega arith in
+    let at : x ≡ name_at a.facts.book c.loop-n.n = c.name-name.ensures.value ∙ ap
+    (λ (b : BookFacts). name_at b c.loop-n.n) first in
     let test = ap (λ (b : BookFacts). is_free b c.args.answers.now x) (sym second) ∙ sym c.is_free.ensures in
     let room = v.room in
     elim c.if-is_free.branch [
@@ -31,7 +36,8 @@ loop-n-preserved g c =
           let spare = w.discard.ensures.spare in
           let free : is_free a.facts.book c.args.answers.now x ≡ true = test ∙ w.if-is_free.true in
           rw w.access-is (rw w.dropped-is record {
-            discarding = discarding_more x v.discarding below at free (ap (λ b. c.loop-n.dropped + cond b 1 0) (sym w.if-discard.true)) w.discard.ensures.goes;
+            discarding = discarding_more x v.discarding below at free (ap (λ b. c.loop-n.dropped + cond b 1 0)
+                (sym w.if-discard.true)) w.discard.ensures.goes;
             shown = shown_discarded c.args.answers.now v.shown w.discard.ensures.goes;
             leaves = leaves_discarded v.leaves w.discard.ensures.goes;
             room = omega arith;

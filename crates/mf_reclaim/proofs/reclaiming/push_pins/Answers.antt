@@ -12,7 +12,8 @@ loop-answer-preserved c =
     let more = c.push_pin.ensures.few in
     let grown = c.push_pin.ensures.capacity in
     record {
-      value = pins_more c.args.answers.now c.loop-answer.answer-index c.loop-answer.g _ closed.Done c.loop-answer.pinned.items
+      value = pins_more c.args.answers.now c.loop-answer.answer-index c.loop-answer.g _ closed.Done
+          c.loop-answer.pinned.items
           c.push_pin.new.pinned.items c.loop-answer-test.true refl v.place v.value c.push_pin.ensures.items;
       place = omega arith;
       few = omega arith;

@@ -3,7 +3,8 @@ use Rattle.mf_vault.specs.Facts.{stages}
 use Rattle.mf_vault.proofs.Entering.{pinned_at}
 use Rattle.mf_reclaim.specs.Collecting.{HasSeen, Collects}
 use Rattle.mf_reclaim.proofs.Closings.{leaves_then}
-use Rattle.mf_reclaim.proofs.Learning.{learnt_at, learnt_removed, absent, absent_leaves, no_memory, memory_leaves, reclaimed}
+use Rattle.mf_reclaim.proofs.Learning.{learnt_at, learnt_removed, absent, absent_leaves, no_memory, memory_leaves}
+use Rattle.mf_reclaim.proofs.Learning.{reclaimed}
 use Rattle.mf_reclaim.proofs.reclaiming.reclaim.Goals as goal
 
 pub returns-in_default-clause-licence : goal.returns-in_default-clause-licence
@@ -29,7 +30,8 @@ collect-requires-in-Removed-clause-idle g c =
 
 pub collect-requires-in-Removed-clause-seen : goal.collect-requires-in-Removed-clause-seen
 collect-requires-in-Removed-clause-seen g c =
-    subst (λ n. HasSeen n (g.A.Access.actor c.pin.new.self)) (sym (c.stages-stages.ensures.value ∙ ap (λ b. length b.shape.stages) c.book.ensures))
+    subst (λ n. HasSeen n (g.A.Access.actor c.pin.new.self)) (sym (c.stages-stages.ensures.value
+    ∙ ap (λ b. length b.shape.stages) c.book.ensures))
     (learnt_removed c.requires.idle c.prepared.ensures.stays c.in-Removed.ensures.goes).seen
 
 pub returns-in-At-clause-licence : goal.returns-in-At-clause-licence
@@ -47,7 +49,8 @@ returns-in-Removed-clause-licence g c =
     reclaimed (learnt_removed c.requires.idle c.prepared.ensures.stays c.in-Removed.ensures.goes)
     (subst (λ n. Collects n c.collect-in-Removed.result (g.A.Access.actor c.pin.new.self)
     (g.A.Access.actor c.collect-in-Removed.new.access))
-    (c.stages-stages.ensures.value ∙ ap (λ b. length b.shape.stages) c.book.ensures) c.collect-in-Removed.ensures.collects)
+    (c.stages-stages.ensures.value ∙ ap (λ b. length b.shape.stages) c.book.ensures)
+    c.collect-in-Removed.ensures.collects)
 
 pub returns-in-Removed-clause-leaves : goal.returns-in-Removed-clause-leaves
 returns-in-Removed-clause-leaves g c =

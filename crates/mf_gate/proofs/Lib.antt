@@ -6,3 +6,4 @@ pub mod Seats
 pub mod Leaving
 pub mod Opening
 pub mod Resting
+pub mod Tried

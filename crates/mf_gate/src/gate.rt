@@ -8,6 +8,7 @@ use crate::board::{Board, Both, Halves, Place};
 use mf_vault::Rest;
 
 /// One file's words, and a slot for the chunk of each name.
+#[derive(Drop)]
 pub struct Gate {
     pub(crate) board: Board,
     pub(crate) stages: u32,
@@ -23,6 +24,7 @@ pub struct Gate {
 }
 
 /// One actor's pass through a gate. It carries the emptied slot of the name that it has Taken.
+#[derive(Drop)]
 pub struct Pass {
     pub(crate) place: Place,
     ghost active: { Active place.me.0.view },

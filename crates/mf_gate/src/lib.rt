@@ -13,6 +13,8 @@ mod gating;
 mod known;
 mod making;
 mod stepping;
+#[cfg(test)]
+mod tests;
 
 pub use answers::Taken;
 pub use gate::{Gate, Pass};

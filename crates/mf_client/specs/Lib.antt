@@ -1,1 +1,8 @@
+-- What the public calls promise.
 pub mod Lacks
+pub mod Clients
+pub mod Acts
+pub mod Runs
+pub mod Laws
+-- Words of private functions.
+pub mod Steps

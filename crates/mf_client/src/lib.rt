@@ -1,11 +1,18 @@
 //! One client's commands: what is done, and what came of it.
 #![tactic(auto)]
 
+mod acting;
 mod done;
+mod finding;
 mod lacks;
+mod laws;
+mod losing;
+mod running;
 mod turnstile;
 
 pub use done::{Done, Outcome, Part, Parts, Place};
+pub use laws::run_has_one_result;
 pub use mf_convert::Change;
 pub use mf_read::ReadOutcome;
+pub use running::run_client;
 pub use turnstile::{Free, Turnstile};

@@ -1,0 +1,10 @@
+pub mod Leaving
+pub mod Few
+pub mod Went
+pub mod Known
+pub mod Halves
+pub mod Listing
+pub mod Losses
+pub mod Numbered
+pub mod Commands
+pub mod Once

@@ -1,0 +1,139 @@
+-- What one command does.
+use Rattle.std.specs.Prelude.{◌≡◌, ℕ, ◌+◌, Bool, List, [], ◌∷◌, length, map, filter, slice_get, slice_set, Some}
+use Rattle.std.specs.declared.vec.Vec.{Vec}
+use Rattle.std.specs.declared.alloc.Global.{Global}
+use Rattle.sha2.specs.Sha256.{sha256}
+use Rattle.mf_machine.specs.declared.answer.Slot.TheVariants.{Hold}
+use Rattle.mf_places.specs.declared.Name.{Name}
+use Rattle.mf_places.specs.declared.servers.Servers.{Servers}
+use Rattle.mf_places.specs.Names.{all_names}
+use Rattle.mf_places.specs.Placement.{is_on}
+use Rattle.mf_places.specs.Servers.{no_servers}
+use Rattle.mf_lines.specs.declared.parts.Act.{Act}
+use Rattle.mf_lines.specs.declared.parts.Act.TheVariants as act
+use Rattle.mf_vault.specs.declared.answers.Pinned.{Pinned}
+use Rattle.mf_vault.specs.declared.answers.Pinned.TheVariants as pinned
+use Rattle.mf_vault.specs.Facts.{Facts}
+use Rattle.mf_vault.specs.Actor.{Actor, Call, did, cut_off, pin, unpin, lose}
+use Rattle.mf_vault.specs.Licence.{Does}
+use Rattle.mf_convert.specs.Create.{Creates}
+use Rattle.mf_convert.specs.Remove.{Removes}
+use Rattle.mf_read.specs.declared.outcome.ReadOutcome.{ReadOutcome}
+use Rattle.mf_read.specs.declared.outcome.ReadOutcome.TheVariants as read
+use Rattle.mf_read.specs.Reading.{Reads}
+use Rattle.mf_client.specs.declared.done.Outcome.{Outcome}
+use Rattle.mf_client.specs.declared.done.Outcome.TheVariants as outcome
+use Rattle.mf_client.specs.declared.done.Part.{Part}
+
+-- ---- the servers that can't be reached
+
+-- those that a command names
+abbrev pub away_of : Act → Servers
+away_of (act.Read file away) = away
+away_of any_other = no_servers
+
+-- they are cut off in all files
+abbrev pub cut_all : Servers → List Actor → List Actor
+cut_all away actors = map (did (cut_off away)) actors
+
+-- ---- what comes of a command on one file, from the file's actor before it to that after it
+
+-- a create; where memory ran out before it began, nothing was done
+abbrev pub IsCreated : Outcome → Actor → Actor → Type 0
+IsCreated (outcome.Change change) a b = Creates change a b
+IsCreated outcome.Memory a b = b ≡ a
+IsCreated other a b = ⊥
+
+-- a read that didn't give the bytes
+abbrev pub IsRefused : ReadOutcome → Actor → Actor → Type 0
+IsRefused (read.Bytes g bytes from) a b = ⊥
+IsRefused refused a b = Reads refused a b
+
+-- a read, which tells how many bytes it gave, and their SHA-256
+abbrev pub IsReadOut : Outcome → Actor → Actor → Type 0
+IsReadOut (outcome.Bytes g count from digest) a b = (bytes : Vec ℕ Global) × Reads (read.Bytes g bytes from) a b
+    × (count ≡ length bytes.items) × (digest ≡ sha256 bytes.items)
+IsReadOut (outcome.Refused refused) a b = IsRefused refused a b
+IsReadOut other a b = ⊥
+
+-- a remove
+abbrev pub IsRemoved : Outcome → Actor → Actor → Type 0
+IsRemoved (outcome.Change change) a b = Removes change a b
+IsRemoved other a b = ⊥
+
+-- the Hold slot was free, and a pin of it had this answer
+abbrev pub Pins : Pinned → Actor → Actor → Type 0
+Pins p a b = (a.view.hold ≡ 0) × ((missed : List ℕ) × Does (pin Hold missed p ∷ []) a b)
+
+-- a hold
+abbrev pub IsHeld : Outcome → Actor → Actor → Type 0
+IsHeld (outcome.Held g) a b = Pins (pinned.At g) a b
+IsHeld outcome.HoldAbsent a b = Pins pinned.Absent a b
+IsHeld outcome.HoldRemoved a b = Pins pinned.Removed a b
+IsHeld (outcome.AlreadyHeld g) a b = (a.view.hold ≡ g + 1) × (b ≡ a)
+IsHeld other a b = ⊥
+
+-- a release
+abbrev pub IsReleased : Outcome → Actor → Actor → Type 0
+IsReleased (outcome.Released g) a b = (a.view.hold ≡ g + 1) × Does (unpin Hold ∷ []) a b
+IsReleased outcome.NotHeld a b = (a.view.hold ≡ 0) × (b ≡ a)
+IsReleased other a b = ⊥
+
+-- ---- the command that empties a server, in all files
+
+-- a file's names on a server, in order
+abbrev pub names_on : Facts → (server : ℕ) → List Name
+names_on f server = filter (is_on f.book server) (all_names f.book)
+
+-- names in turn are lost by the command of this line, each with its answer
+abbrev pub loses : (line : ℕ) → List Name → List Bool → List Call
+loses line [] answers = []
+loses line (x ∷ names) [] = []
+loses line (x ∷ names) (b ∷ answers) = lose x line b ∷ loses line names answers
+
+-- they were, in the file of this actor, and n were there
+pub record LosesIn (line : ℕ) (names : List Name) (n : ℕ) (a b : Actor) : Type 0 where
+  pub answers : List Bool
+  pub long : length answers ≡ length names
+  pub count : n ≡ length (filter (λ (there : Bool). there) answers)
+  pub does : Does (loses line names answers) a b
+
+-- so in all files in turn, each with its list of names
+abbrev pub LosesAll : (line : ℕ) → List (List Name) → (n : ℕ) → List Actor → List Actor → Type 0
+LosesAll line [] n [] [] = n ≡ 0
+LosesAll line (names ∷ lists) n (a ∷ before) (b ∷ after) =
+    (k rest : ℕ) × (n ≡ k + rest) × LosesIn line names k a b × LosesAll line lists rest before after
+LosesAll line lists n before after = ⊥
+
+-- the names on a server of each file
+abbrev pub lists_on : (server : ℕ) → List Actor → List (List Name)
+lists_on server actors = map (λ (a : Actor). names_on a.facts server) actors
+
+-- where memory ran out nothing was lost
+abbrev pub IsLost : (server line : ℕ) → Outcome → List Actor → List Actor → Type 0
+IsLost server line (outcome.Lost n) before after = LosesAll line (lists_on server before) n before after
+IsLost server line outcome.Memory before after = after ≡ before
+IsLost server line other before after = ⊥
+
+-- ---- any command
+
+-- a command on this file took its actor from one to the other, and left the actors of the other files as they were
+pub record OnFile (file : ℕ) (Goes : Actor → Actor → Type 0) (before after : List Actor) : Type 0 where
+  pub old : Actor
+  pub new : Actor
+  pub was : slice_get before file ≡ Some old
+  pub goes : Goes old new
+  pub is : after ≡ slice_set before file new
+
+-- such a command has no parts
+abbrev pub ActsOn : (file : ℕ) → (Actor → Actor → Type 0) → List Part → List Actor → List Actor → Type 0
+ActsOn file Goes parts before after = (parts ≡ []) × OnFile file Goes before after
+
+-- what the command in this line of the script did, behind the cutting off
+abbrev pub Acts : (line : ℕ) → Act → Outcome → List Part → List Actor → List Actor → Type 0
+Acts line (act.Create file) came parts before after = ActsOn file (IsCreated came) parts before after
+Acts line (act.Read file away) came parts before after = ActsOn file (IsReadOut came) parts before after
+Acts line (act.Remove file) came parts before after = ActsOn file (IsRemoved came) parts before after
+Acts line (act.Hold file) came parts before after = ActsOn file (IsHeld came) parts before after
+Acts line (act.Release file) came parts before after = ActsOn file (IsReleased came) parts before after
+Acts line (act.Lose server) came parts before after = (parts ≡ []) × IsLost server line came before after

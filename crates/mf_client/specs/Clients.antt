@@ -1,0 +1,55 @@
+-- A client of a script, and the files that it finds.
+use Rattle.std.specs.Prelude.{◌≡◌, ℕ, ◌-◌, ◌≤◌, List, [], ◌∷◌, length, map, slice_get, slice_index_or, Some}
+use Rattle.mf_check.specs.Families.{Code}
+use Rattle.mf_lines.specs.declared.parts.Client.{Client}
+use Rattle.mf_lines.specs.declared.parts.Command.{Command}
+use Rattle.mf_lines.specs.declared.parts.FileLine.{FileLine}
+use Rattle.mf_lines.specs.declared.parts.Item.{Item}
+use Rattle.mf_lines.specs.declared.parts.Item.TheVariants as item
+use Rattle.mf_lines.specs.Meaning.{Script, main_of}
+use Rattle.mf_script.specs.Contents.{bytes_in}
+use Rattle.mf_script.specs.Losses.{losses_of}
+use Rattle.mf_script.specs.Scripts.{code_of}
+use Rattle.mf_vault.specs.Facts.{Facts}
+use Rattle.mf_vault.specs.Actor.{Actor}
+use Rattle.mf_vault.specs.Conditions.{IsOfFamily}
+
+-- the phases among these items, each with its clients
+abbrev pub phases_in : List Item → List (List Client)
+phases_in [] = []
+phases_in (item.Phase clients ∷ items) = clients ∷ phases_in items
+
+-- the clients of a phase, and the commands of one of these; phases and clients are numbered from 1
+abbrev pub clients_of : Script → (phase : ℕ) → List Client
+clients_of s phase = slice_index_or (phases_in s.items) (phase - 1) []
+
+abbrev pub commands_of : Script → (phase client : ℕ) → List Command
+commands_of s phase client = (slice_index_or (clients_of s phase) (client - 1) (record { commands = [] })).commands
+
+-- the script has this client
+pub record HasClient (s : Script) (phase client : ℕ) : Type 0 where
+  pub phases : (1 ≤ phase) × (phase ≤ length (phases_in s.items))
+  pub clients : (1 ≤ client) × (client ≤ length (clients_of s phase))
+
+-- the code of the script's family
+abbrev pub family_of : Script → Code
+family_of s = code_of s (main_of s)
+
+-- in this phase the script's file of this number and this line has these facts: the shape and the points of the family,
+-- the chunk size, the number, the bytes, and the lose lines up to the end of the phase
+pub record IsFileOf (s : Script) (phase number : ℕ) (line : FileLine) (f : Facts) : Type 0 where
+  pub family : IsOfFamily (family_of s).shape (family_of s).points f.book
+  pub chunk : f.book.chunk ≡ s.chunk
+  pub file : f.book.file ≡ number
+  pub bytes : f.bytes ≡ bytes_in line.content
+  pub losses : f.losses ≡ losses_of s phase
+
+-- these are the facts of all files of the script, in order
+pub record AreFiles (s : Script) (phase : ℕ) (files : List Facts) : Type 0 where
+  pub count : length files ≡ length s.files
+  pub each : (n : ℕ) (line : FileLine) (f : Facts) → slice_get s.files n ≡ Some line → slice_get files n ≡ Some f
+      → IsFileOf s phase n line f
+
+-- the facts of these actors' files
+abbrev pub facts_in : List Actor → List Facts
+facts_in actors = map (λ (a : Actor). a.facts) actors

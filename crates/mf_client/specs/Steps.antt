@@ -1,0 +1,73 @@
+-- What the parts of a run do.
+use Rattle.std.specs.Prelude.{◌≡◌, ℕ, ◌<◌, ◌≤◌, List, [], ◌∷◌, length, map, take, All, Some, Vec}
+use Rattle.std.specs.Global.{Global}
+use Rattle.mf_machine.specs.File.{listed}
+use Rattle.mf_places.specs.declared.Name.{Name}
+use Rattle.mf_lines.specs.declared.parts.Act.{Act}
+use Rattle.mf_lines.specs.declared.parts.Act.TheVariants as act
+use Rattle.mf_lines.specs.declared.parts.Command.{Command}
+use Rattle.mf_lines.specs.Meaning.{Script, file_in}
+use Rattle.mf_vault.specs.Facts.{Facts, lines}
+use Rattle.mf_vault.specs.Actor.{Actor}
+use Rattle.mf_vault.specs.Conditions.{IsIdle}
+use Rattle.mf_vault.specs.May.{MayLose}
+use Rattle.mf_client.specs.declared.done.Outcome.{Outcome}
+use Rattle.mf_client.specs.declared.done.Done.{Done}
+use Rattle.mf_client.specs.Clients.{AreFiles, facts_in, commands_of}
+use Rattle.mf_client.specs.Acts.{IsCreated, IsReadOut, IsRemoved, IsHeld, IsReleased}
+use Rattle.mf_client.specs.Runs.{RunsFrom, IsSmall}
+
+-- what came of a command on one file
+abbrev pub Comes : Act → Outcome → Actor → Actor → Type 0
+Comes (act.Create file) came = IsCreated came
+Comes (act.Read file away) came = IsReadOut came
+Comes (act.Remove file) came = IsRemoved came
+Comes (act.Hold file) came = IsHeld came
+Comes (act.Release file) came = IsReleased came
+Comes (act.Lose server) came = λ a b. ⊥
+
+-- the line is a lose line of the server, up to the end of the phase
+abbrev pub IsLine : (line server : ℕ) → Facts → Type 0
+IsLine line server f = 0 < listed line server (lines f.losses)
+
+-- a command finds the files of its phase: its file is one of the script's, or its line is a lose line of its server
+pub record Finds (s : Script) (command : Command) (actors : List Actor) : Type 0 where
+  pub phase : ℕ
+  pub files : AreFiles s phase (facts_in actors)
+  pub idle : All IsIdle actors
+  pub few : length actors ≤ 128
+  pub file : (n : ℕ) → file_in command.act ≡ Some n → n < length s.files
+  pub lines : (server : ℕ) → command.act ≡ act.Lose server → All (IsLine command.line server) (facts_in actors)
+
+-- ---- names that are lost
+
+-- the names of each vector
+abbrev pub rows : List (Vec Name Global) → List (List Name)
+rows vectors = map (λ v. v.items) vectors
+
+-- each name may be lost by the command of this line
+abbrev pub AreLosable : (line : ℕ) → List Name → Actor → Type 0
+AreLosable line names a = All (λ x. MayLose x line a) names × (length names ≤ 300000)
+
+-- so the names of each list, in its file
+abbrev pub AllLosable : (line : ℕ) → List (List Name) → List Actor → Type 0
+AllLosable line [] [] = Unit {0}
+AllLosable line (names ∷ lists) (a ∷ actors) = AreLosable line names a × AllLosable line lists actors
+AllLosable line lists actors = ⊥
+
+-- each ledger has room for its list of names
+abbrev pub HaveRoom : List (List Name) → (spare : List ℕ) → Type 0
+HaveRoom [] [] = Unit {0}
+HaveRoom (names ∷ lists) (n ∷ spare) = (length names ≤ n) × HaveRoom lists spare
+HaveRoom lists spare = ⊥
+
+-- ---- a client on its way
+
+-- the first i commands of the client led from the actors at its start to those now
+pub record IsRunning (s : Script) (phase client i : ℕ) (start : List Actor) (done : List Done) (now : List Actor)
+    : Type 0 where
+  pub runs : RunsFrom s phase client 1 (take i (commands_of s phase client)) start done now
+  pub count : length done ≡ i
+  pub small : All (λ (d : Done). IsSmall d.io) done
+  pub idle : All IsIdle now
+  pub facts : facts_in now ≡ facts_in start

@@ -1,0 +1,99 @@
+//! Commands on one file.
+
+ghost use Rattle.std.specs.Prelude.{◌≡◌, ◌≤◌, length, drop};
+ghost use Rattle.sha2.specs.Sha256.{sha256};
+ghost use Rattle.mf_machine.specs.declared.answer.Slot.TheVariants.{Work};
+ghost use Rattle.mf_places.specs.Servers.{no_servers};
+ghost use Rattle.mf_script.specs.Contents.{bytes_in};
+ghost use Rattle.mf_vault.specs.Conditions.{IsIdle, IsOfFamily};
+ghost use Rattle.mf_client.specs.Acts.{IsCreated, IsReadOut, IsRemoved, IsHeld, IsReleased};
+
+use crate::done::Outcome;
+use mf_convert::{create, remove};
+use mf_read::{Family, ReadOutcome, read};
+use mf_script::{Content, content_bytes};
+use mf_vault::{Fetch, Pinned, Slot};
+use sha2::{Digest, Sha256};
+use std::alloc::Global;
+
+// Creates the file of this content.
+pub(crate) fn create_file<A: Fetch>(
+    alloc: Global,
+    access: &mut A,
+    family: &Family,
+    content: &Content,
+) -> Outcome
+    requires idle { IsIdle (A.actor access.old) }
+    requires family { IsOfFamily family.now.shape family.now.points
+        (A.actor access.old).facts.book }
+    requires bytes { (A.actor access.old).facts.bytes ≡ bytes_in content.now }
+    requires reached { (A.actor access.old).cut ≡ no_servers }
+    ensures { IsCreated result (A.actor access.old) (A.actor access.new) }
+{
+    match content_bytes(alloc, content) {
+        Ok(bytes) => Outcome::Change(create(alloc, access, family, &bytes)),
+        Err(_) => Outcome::Memory,
+    }
+}
+
+// The SHA-256 of the bytes.
+fn digest_of(bytes: &[u8]) -> [u8; 32]
+    ensures { result ≡ sha256 bytes.now }
+{
+    let mut hasher = Sha256::new();
+    hasher.update(bytes);
+    hasher.finalize()
+}
+
+// Reads the file.
+pub(crate) fn read_file<A: Fetch>(alloc: Global, access: &mut A, family: &Family) -> Outcome
+    requires idle { IsIdle (A.actor access.old) }
+    requires family { IsOfFamily family.now.shape family.now.points
+        (A.actor access.old).facts.book }
+    ensures { IsReadOut result (A.actor access.old) (A.actor access.new) }
+{
+    match read(alloc, access, family) {
+        ReadOutcome::Bytes { g, bytes, from } => Outcome::Bytes {
+            g,
+            length: access.book().length(),
+            from,
+            digest: digest_of(&bytes),
+        },
+        refused => Outcome::Refused(refused),
+    }
+}
+
+// Removes the file.
+pub(crate) fn remove_file<A: Fetch>(access: &mut A) -> Outcome
+    requires idle { IsIdle (A.actor access.old) }
+    ensures { IsRemoved result (A.actor access.old) (A.actor access.new) }
+{
+    Outcome::Change(remove(access))
+}
+
+// Pins the published generation in the Hold slot, unless one is pinned there.
+pub(crate) fn hold_file<A: Fetch>(access: &mut A) -> Outcome
+    ensures { IsHeld result (A.actor access.old) (A.actor access.new) }
+{
+    if let Some(g) = access.pinned(Slot::Hold) {
+        return Outcome::AlreadyHeld(g);
+    }
+    match access.pin(Slot::Hold) {
+        Pinned::At(g) => Outcome::Held(g),
+        Pinned::Absent => Outcome::HoldAbsent,
+        Pinned::Removed => Outcome::HoldRemoved,
+    }
+}
+
+// Frees the Hold slot, where a generation is pinned there.
+pub(crate) fn release_file<A: Fetch>(access: &mut A) -> Outcome
+    ensures { IsReleased result (A.actor access.old) (A.actor access.new) }
+{
+    match access.pinned(Slot::Hold) {
+        Some(g) => {
+            access.unpin(Slot::Hold);
+            Outcome::Released(g)
+        }
+        None => Outcome::NotHeld,
+    }
+}

@@ -1,6 +1,7 @@
 -- What the public calls promise.
 pub mod Create
 pub mod Remove
+pub mod Convert
 pub mod Laws
 -- Words of private functions.
 pub mod Building

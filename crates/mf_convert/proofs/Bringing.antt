@@ -36,7 +36,7 @@ pub record Brought (m : ℕ) (x : Name) (s : State) (a : Actor) : Type 0 where
   pub here : m ≡ number a.facts x → IsMarked a.view.build (number a.facts x) s
       → Among m (did_all (bring x s) a).view.build.settled
 
-brought : (m : ℕ) (x : Name) (s : State) (a : Actor) → Brought m x s a
+pub brought : (m : ℕ) (x : Name) (s : State) (a : Actor) → Brought m x s a
 brought m x Unborn a = record {
   unborn = λ ne h. let z = without_else m (number a.facts x) a.view.build.unborn ne in omega arith;
   lost = λ ne h. h;

@@ -5,3 +5,16 @@ pub mod Bringing
 pub mod Created
 pub mod Made
 pub mod Once
+pub mod Courses
+pub mod Steady
+pub mod Next
+pub mod Marks
+pub mod Rows
+pub mod Probing
+pub mod Few
+pub mod Fetching
+pub mod Merged
+pub mod Making
+pub mod Completing
+pub mod Fewer
+pub mod Converted

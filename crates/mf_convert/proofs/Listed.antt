@@ -26,7 +26,7 @@ first_held b k d low = (
   filter_passes (holds b 0) (all_names b) k d low,
 )
 
-all_apart : (b : BookFacts) → AllPairs (λ x y. number_of b x ≢ number_of b y) (all_names b)
+pub all_apart : (b : BookFacts) → AllPairs (λ x y. number_of b x ≢ number_of b y) (all_names b)
 unfolding name_at count_of
 all_apart b i j d less low same =
     let x = (number_of-name_at b i (omega arith)).1 in
@@ -52,7 +52,7 @@ at_head : (b : Bool) (x d : Name) (ys : List Name) → b ≡ true → StandsIn x
 at_head true x d ys e = record { place = 0; below = omega arith; is = refl }
 at_head false x d ys e = absurd (false≢true e)
 
-found_in : (p : Name → Bool) (xs : List Name) (i : ℕ) (d : Name) → i < length xs → p (get_or xs i d) ≡ true
+pub found_in : (p : Name → Bool) (xs : List Name) (i : ℕ) (d : Name) → i < length xs → p (get_or xs i d) ≡ true
     → StandsIn (get_or xs i d) d (filter p xs)
 found_in p [] i d low h = absurd (omega arith)
 found_in p (x ∷ xs) zero d low h = at_head (p x) x d (filter p xs) h

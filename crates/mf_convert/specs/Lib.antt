@@ -5,4 +5,5 @@ pub mod Convert
 pub mod Laws
 -- Words of private functions.
 pub mod Building
+pub mod Converting
 pub mod Cells

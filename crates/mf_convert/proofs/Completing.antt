@@ -1,11 +1,9 @@
 -- The probes of a conversion, and then what is made.
-use Rattle.std.proofs.Common.{◌≡◌, ℕ, ◌+◌, ◌<◌, ◌≤◌, List, [], ◌∷◌, ◌++◌, length, get_or, refl, sym, ap, ◌∙◌, subst, arith}
+use Rattle.std.proofs.Common.{◌≡◌, ◌+◌, List, ◌++◌, sym, ap, ◌∙◌, subst}
 use Rattle.std.proofs.Common.{Result, Ok, Err, IfOk, IfErr}
 use Rattle.mf_machine.specs.declared.answer.State.{State}
 use Rattle.mf_places.specs.declared.Name.{Name}
-use Rattle.mf_vault.specs.Facts.{Facts}
 use Rattle.mf_vault.specs.Actor.{Actor}
-use Rattle.mf_vault.specs.Licence.{Does}
 use Rattle.mf_vault.proofs.Doing.{facts_stay}
 use Rattle.mf_convert.specs.declared.change.Change.{Change}
 use Rattle.mf_convert.specs.declared.change.Change.TheVariants as change
@@ -51,7 +49,8 @@ makes_cut {c = c} {o = o} names states {a = a} {d = d} {z = z} e is on probed k 
     let x = subst (λ y. Completes c (probes names states) y d) e probed in
     record {
       states = states;
-      on = subst (λ l. AllGoOn a.facts.book c.from l states) is (subst (λ (y : Actor). AllGoOn y.facts.book c.from names states) e on);
+      on = subst (λ l. AllGoOn a.facts.book c.from l states) is
+          (subst (λ (y : Actor). AllGoOn y.facts.book c.from names states) e on);
       cuts = subst (λ l. Cuts c (probes l states ++ makes a.facts c.from l states) o a z) is
           (cut_behind x.does (subst (λ f. Cuts c (makes f c.from names states) o d z) (facts_stay x.does) k));
     }
@@ -64,8 +63,10 @@ makes_done {c = c} names states {a = a} {d = d} {z = z} e is on probed k all =
     let x = subst (λ y. Completes c (probes names states) y d) e probed in
     record {
       states = states;
-      on = subst (λ l. AllGoOn a.facts.book c.from l states) is (subst (λ (y : Actor). AllGoOn y.facts.book c.from names states) e on);
+      on = subst (λ l. AllGoOn a.facts.book c.from l states) is
+          (subst (λ (y : Actor). AllGoOn y.facts.book c.from names states) e on);
       completes = subst (λ l. Completes c (probes l states ++ makes a.facts c.from l states) a z) is
           (completes_then x (subst (λ f. Completes c (makes f c.from names states) d z) (facts_stay x.does) k));
-      done = subst (λ l. AreDone z l) (is ∙ ap (λ f. names_of f (c.from + 1)) (sym (facts_stay k.does ∙ facts_stay x.does))) all;
+      done = subst (λ l. AreDone z l)
+          (is ∙ ap (λ f. names_of f (c.from + 1)) (sym (facts_stay k.does ∙ facts_stay x.does))) all;
     }

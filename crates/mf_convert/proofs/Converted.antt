@@ -1,8 +1,8 @@
 -- A conversion from its calls.
-use Rattle.std.proofs.Common.{◌≡◌, ℕ, ◌+◌, ◌<◌, ◌≤◌, ◌^◌, true, false, List, [], ◌∷◌, ◌++◌, length, length-append, drop, get_or, refl, sym, ap}
+use Rattle.std.proofs.Common.{◌≡◌, ℕ, ◌+◌, ◌<◌, ◌≤◌, ◌^◌, true, List, [], ◌∷◌, ◌++◌, length, drop, refl, sym, ap}
 use Rattle.std.proofs.Common.{◌∙◌, subst, arith, Option, IfSome, Some, None, ⊎_elim}
 use Rattle.std.proofs.Math.Seq.{drop-append_seam}
-use Rattle.std.proofs.lemmas.List.{append-nil, append_assoc}
+use Rattle.std.proofs.lemmas.List.{append-nil}
 use Rattle.mf_machine.specs.declared.answer.Slot.TheVariants.{Work}
 use Rattle.mf_machine.specs.Actors.{Among}
 use Rattle.mf_places.specs.declared.Name.{Name}
@@ -13,24 +13,24 @@ use Rattle.mf_places.specs.Names.{HasName}
 use Rattle.mf_vault.specs.declared.answers.Entry.{Entry}
 use Rattle.mf_vault.specs.declared.answers.Pinned.{Pinned}
 use Rattle.mf_vault.specs.declared.answers.Pinned.TheVariants.{At}
-use Rattle.mf_vault.specs.Conditions.{IsIdle, Leaves}
-use Rattle.mf_vault.specs.Facts.{Facts, number, stages}
+use Rattle.mf_vault.specs.Conditions.{Leaves}
+use Rattle.mf_vault.specs.Facts.{Facts, number}
 use Rattle.mf_vault.specs.Actor.{Actor, Call, begin, pin, unpin, end, publish, did}
 use Rattle.mf_vault.specs.Answers.{Goes}
 use Rattle.mf_vault.specs.Counting.{io_of}
-use Rattle.mf_vault.specs.Licence.{Does, Entered, did_all, entries_of, work_of_pin}
+use Rattle.mf_vault.specs.Licence.{Does, Entered, entries_of, work_of_pin}
 use Rattle.mf_vault.specs.May.{MayPublish}
-use Rattle.mf_vault.proofs.Doing.{one, then, after, more, facts_stay, facts_kept, entries_are}
+use Rattle.mf_vault.proofs.Doing.{one, then, after, more, facts_stay, entries_are}
 use Rattle.mf_vault.proofs.Held.{may_publish_next}
 use Rattle.mf_convert.specs.declared.change.Change.{Change}
 use Rattle.mf_convert.specs.declared.change.Change.TheVariants as change
 use Rattle.mf_convert.specs.declared.course.Course.{Course}
 use Rattle.mf_convert.specs.Convert as convert
 use Rattle.mf_convert.specs.Convert.{IsConversion, IsConvert, Converts, IsCounted, whole, names_of}
-use Rattle.mf_convert.specs.Converting.{since, IsInTime, IsConverter, CutsAll, CompletesAll, ConvertsFrom, ConvertsPinned}
+use Rattle.mf_convert.specs.Converting.{since, IsConverter, CutsAll, CompletesAll, ConvertsFrom, ConvertsPinned}
 use Rattle.mf_convert.proofs.Fewer.{whole_few, calls_few}
 use Rattle.mf_convert.proofs.Next.{next_found}
-use Rattle.mf_convert.proofs.Steady.{Stays, stays, stays_same, stays_on, converter_stays, whole_ops, cut_ops, AreOps}
+use Rattle.mf_convert.proofs.Steady.{stays, converter_stays, whole_ops, cut_ops, AreOps}
 
 -- the entries since the ledger was so long are those of all calls
 pub since_all : (c : Course) {cs : List Call} {a b : Actor} → c.start ≡ length a.entries → Does cs a b
@@ -48,7 +48,8 @@ may_publish {c = c} {a = a} {b = b} k from =
       each : (x : Name) → HasName b.facts.book x → holds b.facts.book (c.from + 1) x ≡ true
           → Among (number b.facts x) b.view.build.settled
       each x had h = let stands = next_found b.facts (c.from + 1) x had h in
-          subst (λ y. Among (number b.facts y) b.view.build.settled) stands.is (k.done stands.place (Data 0) stands.below)
+          subst (λ y. Among (number b.facts y) b.view.build.settled) stands.is
+          (k.done stands.place (Data 0) stands.below)
 
 -- publishing has no entry
 published_same : (c : Course) {n : ℕ} {b d : Actor} → Goes (publish n) b d → since c d ≡ since c b
@@ -74,7 +75,8 @@ converted_from {c = c} {made = m} {a = a} {b = b} {d = d} k g e is =
       conversion = convert.converted k.states m k.on;
       counted = (
         is ∙ ap (λ es. (io_of es).writes) entries,
-        subst (λ (es : List Entry). IfSome c.stop (λ most. length es ≤ most)) (sym (published_same c g) ∙ entries) k.completes.time.within,
+        subst (λ (es : List Entry). IfSome c.stop (λ most. length es ≤ most)) (sym (published_same c g)
+            ∙ entries) k.completes.time.within,
       );
       does = does;
     }
@@ -125,12 +127,13 @@ conversion_rests {f = f} {g = g} (convert.cut states o done on k) d = rests_of d
 no_calls : {cs : List Call} {a b : Actor} → cs ≡ [] → Does cs a b → Rests a b
 no_calls {a = a} {b = b} e d = rests_of (subst (λ l. Does l a b) e d) tt
 
-pub pinned_rests : {g upto : ℕ} {stop : Option ℕ} {o : Change} {a b : Actor} → ConvertsPinned g upto stop o a b → Rests a b
+pub pinned_rests : {g upto : ℕ} {stop : Option ℕ} {o : Change} {a b : Actor} → ConvertsPinned g upto stop o a b
+    → Rests a b
 pinned_rests p = ⊎_elim (λ k. conversion_rests k.1 p.does) (λ k. no_calls k.2 p.does) p.conversion
 
 -- ---- the whole call
 
-no_publish : (cs : List Call) → entries_of (cs ++ unpin Work ∷ end ∷ []) ≡ entries_of cs
+pub no_publish : (cs : List Call) → entries_of (cs ++ unpin Work ∷ end ∷ []) ≡ entries_of cs
 no_publish [] = refl
 no_publish (c ∷ cs) = ap (λ l. Rattle.mf_vault.specs.Actor.entry_of c ++ l) (no_publish cs)
 
@@ -140,7 +143,9 @@ converts {g = g} {upto = upto} {stop = stop} {o = o} {a = a} {z = z} e p u f = r
   calls = begin true ∷ pin Work e.missed (At g) ∷ (p.calls ++ unpin Work ∷ end ∷ []);
   licence = ⊎_elim
       (λ k. convert.converting e.missed g o p.calls k.0 (subst (λ h. IsConversion h g o p.calls) e.facts k.1))
-      (λ k. subst (λ cs. IsConvert a.facts upto o (begin true ∷ pin Work e.missed (At g) ∷ (cs ++ unpin Work ∷ end ∷ []))) (sym k.2)
+      (λ k. subst
+      (λ cs. IsConvert a.facts upto o (begin true ∷ pin Work e.missed (At g) ∷ (cs ++ unpin Work ∷ end ∷ [])))
+      (sym k.2)
       (subst (λ q. IsConvert a.facts upto q (begin true ∷ pin Work e.missed (At g) ∷ unpin Work ∷ end ∷ [])) (sym k.1)
       (convert.last e.missed g k.0)))
       p.conversion;
@@ -160,7 +165,8 @@ left_pinned {a = a} {d = d} {x = x} {z = z} e p u f = let r = pinned_rests p in
     })
 
 -- where there was nothing to convert
-pub left_at_once : {p : Pinned} {a b z : Actor} → Entered p a b → work_of_pin p a.view.work ≡ 0 → Goes end b z → Leaves a z
+pub left_at_once : {p : Pinned} {a b z : Actor} → Entered p a b → work_of_pin p a.view.work ≡ 0 → Goes end b z
+    → Leaves a z
 left_at_once {a = a} e free f = subst (λ y. Leaves a y) (sym f.becomes) record {
   idle = record { right = refl; work = e.work ∙ free };
   facts = e.facts;

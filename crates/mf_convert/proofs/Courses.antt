@@ -1,15 +1,13 @@
 -- The entries of a conversion so far, and its cuts.
-use Rattle.std.proofs.Common.{◌≡◌, ℕ, ◌+◌, ◌<◌, ◌≤◌, List, [], ◌∷◌, ◌++◌, length, length-append, drop, refl, sym, ap, ◌∙◌, subst}
+use Rattle.std.proofs.Common.{◌≡◌, ℕ, ◌+◌, ◌<◌, ◌≤◌, List, [], ◌∷◌, ◌++◌, length, length-append, drop, refl, sym, ap}
+use Rattle.std.proofs.Common.{◌∙◌, subst}
 use Rattle.std.proofs.Common.{arith, Option, Some, None, IfSome, Result, Ok, Err, IfErr, IsErrAnd}
-use Rattle.std.proofs.lemmas.List.{drop-append-le, append-nil, append_assoc}
-use Rattle.mf_machine.specs.declared.answer.State.{State}
+use Rattle.std.proofs.lemmas.List.{drop-append-le, append-nil}
 use Rattle.mf_places.specs.declared.Name.{Name}
 use Rattle.mf_vault.specs.declared.answers.Got.{Got}
 use Rattle.mf_vault.specs.declared.answers.Got.TheVariants as got
-use Rattle.mf_vault.specs.declared.answers.Entry.{Entry}
 use Rattle.mf_vault.specs.Facts.{Facts}
-use Rattle.mf_vault.specs.Actor.{Actor, Call, entry_of, get_entry, did}
-use Rattle.mf_vault.specs.Actor as call
+use Rattle.mf_vault.specs.Actor.{Actor, Call, entry_of, get_entry}
 use Rattle.mf_vault.specs.Answers.{Goes}
 use Rattle.mf_vault.specs.Licence.{Does, entries_of}
 use Rattle.mf_vault.proofs.Doing.{nothing, one, then, facts_stay, entries_are}

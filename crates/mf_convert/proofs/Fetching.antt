@@ -1,12 +1,10 @@
 -- The gets of a row of parities in turn.
-use Rattle.std.proofs.Common.{◌≡◌, ℕ, suc, ◌+◌, ◌-◌, ◌<◌, ◌≤◌, true, List, [], ◌∷◌, ◌++◌, length, map, take, drop, get_or, refl, sym, ap}
+use Rattle.std.proofs.Common.{◌≡◌, ℕ, suc, ◌+◌, ◌-◌, ◌<◌, ◌≤◌, List, [], ◌∷◌, ◌++◌, map, take, drop, get_or, sym, ap}
 use Rattle.std.proofs.Common.{◌∙◌, subst, arith}
-use Rattle.std.specs.List.{range_with_len}
 use Rattle.std.proofs.lemmas.List.{take-append-drop, map-append}
-use Rattle.std.proofs.lemmas.List.FromFn.{map-range_with_len_more, take-map-range_with_len, get_or-map-range_with_len, length-map-range_with_len}
-use Rattle.mf_places.specs.declared.Name.{Name}
+use Rattle.std.proofs.lemmas.List.FromFn.{map-range_with_len_more, take-map-range_with_len, get_or-map-range_with_len}
+use Rattle.std.proofs.lemmas.List.FromFn.{length-map-range_with_len}
 use Rattle.mf_places.specs.declared.Name.TheVariants as name
-use Rattle.mf_places.specs.Generations.{holds}
 use Rattle.mf_vault.specs.Facts.{Facts, cell_of}
 use Rattle.mf_vault.specs.Actor.{Actor}
 use Rattle.mf_vault.proofs.Doing.{facts_stay}
@@ -43,17 +41,21 @@ gets_at f w p first i end low high =
     let xs = row_of w p first (end - first) in
     let k = i - first in
     let long = length-map-range_with_len (λ j. name.Parity w j p) first (end - first) in
-    let at = get_or-map-range_with_len (λ j. name.Parity w j p) first (end - first) k i (name.Data 0) (omega arith) (omega arith) in
+    let at = get_or-map-range_with_len (λ j. name.Parity w j p) first (end - first) k i (name.Data 0) (omega arith)
+    (omega arith) in
     gets_around f xs k (name.Data 0) (omega arith)
-    ∙ (ap (λ l. gets f l ++ (gets f (get_or xs k (name.Data 0) ∷ []) ++ gets f (drop (suc k) xs))) (front w p first k (end - first) (omega arith))
+    ∙ (ap (λ l. gets f l ++ (gets f (get_or xs k (name.Data 0) ∷ []) ++ gets f (drop (suc k) xs)))
+    (front w p first k (end - first) (omega arith))
     ∙ ap (λ x. gets f (row_of w p first k) ++ (gets f (x ∷ []) ++ gets f (drop (suc k) xs))) at)
 
 -- one parity more
 pub fetched : {c : Course} (w p first i : ℕ) {a b d : Actor} → first ≤ i
-    → Completes c (gets a.facts (row_of w p first (i - first))) a b → Completes c (gets b.facts (name.Parity w i p ∷ [])) b d
+    → Completes c (gets a.facts (row_of w p first (i - first))) a b
+    → Completes c (gets b.facts (name.Parity w i p ∷ [])) b d
     → Completes c (gets a.facts (row_of w p first (i + 1 - first))) a d
 fetched {c = c} w p first i {a = a} {b = b} {d = d} low x y =
-    let same = ap (gets a.facts) (row_more w p first i low) ∙ gets_more a.facts (row_of w p first (i - first)) (name.Parity w i p) in
+    let same = ap (gets a.facts) (row_more w p first i low) ∙ gets_more a.facts (row_of w p first (i - first))
+    (name.Parity w i p) in
     subst (λ l. Completes c l a d) (sym same)
     (completes_then x (subst (λ f. Completes c (gets f (name.Parity w i p ∷ [])) b d) (facts_stay x.does) y))
 
@@ -62,13 +64,15 @@ pub cells_more : (w p first i : ℕ) (f : Facts) (b : Actor) (cells next : List 
     → next ≡ cells ++ cell ∷ [] → next ≡ map (cell_of f) (row_of w p first (i + 1 - first))
 cells_more w p first i f b cells next cell low same before is more =
     more ∙ (ap (λ l. l ++ cell ∷ []) before
-    ∙ (ap (λ x. map (cell_of f) (row_of w p first (i - first)) ++ x ∷ []) (is ∙ ap (λ g. cell_of g (name.Parity w i p)) same)
+    ∙ (ap (λ x. map (cell_of f) (row_of w p first (i - first)) ++ x ∷ [])
+    (is ∙ ap (λ g. cell_of g (name.Parity w i p)) same)
     ∙ (sym (map-append (cell_of f) (row_of w p first (i - first)) (name.Parity w i p ∷ []))
     ∙ ap (map (cell_of f)) (sym (row_more w p first i low)))))
 
 -- a cut at one
 pub fetch_cut : {c : Course} (w p first i end : ℕ) {o : Change} {a b d : Actor} → first ≤ i → i < end
-    → Completes c (gets a.facts (row_of w p first (i - first))) a b → Cuts c (gets b.facts (name.Parity w i p ∷ [])) o b d
+    → Completes c (gets a.facts (row_of w p first (i - first))) a b
+    → Cuts c (gets b.facts (name.Parity w i p ∷ [])) o b d
     → Cuts c (gets a.facts (row_of w p first (end - first))) o a d
 fetch_cut {c = c} w p first i end {o = o} {a = a} {b = b} {d = d} low high x k =
     subst (λ l. Cuts c l o a d) (sym (gets_at a.facts w p first i end low high))
@@ -76,9 +80,11 @@ fetch_cut {c = c} w p first i end {o = o} {a = a} {b = b} {d = d} low high x k =
     (subst (λ f. Cuts c (gets f (name.Parity w i p ∷ [])) o b d) (facts_stay x.does) k)))
 
 pub fetch_memory : {c : Course} (w p first i end : ℕ) {a b d : Actor} → first ≤ i → i < end
-    → Completes c (gets a.facts (row_of w p first (i - first))) a b → Completes c (gets b.facts (name.Parity w i p ∷ [])) b d
+    → Completes c (gets a.facts (row_of w p first (i - first))) a b
+    → Completes c (gets b.facts (name.Parity w i p ∷ [])) b d
     → Cuts c (gets a.facts (row_of w p first (end - first))) change.Memory a d
 fetch_memory {c = c} w p first i end {a = a} {d = d} low high x y =
     let z = fetched w p first i low x y in
-    subst (λ l. Cuts c l change.Memory a d) (sym (gets_from a.facts w p first (i + 1 - first) (end - first) (omega arith)))
+    subst (λ l. Cuts c l change.Memory a d)
+    (sym (gets_from a.facts w p first (i + 1 - first) (end - first) (omega arith)))
     (cut_behind z.does (no_memory (gets a.facts (drop (i + 1 - first) (row_of w p first (end - first)))) z.time))

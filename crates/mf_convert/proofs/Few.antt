@@ -1,6 +1,7 @@
 -- How many names and how many entries there can be.
-use Rattle.std.proofs.Common.{◌≡◌, ℕ, zero, suc, ◌+◌, ◌*◌, ◌<◌, ◌≤◌, Bool, true, false, cond, List, [], ◌∷◌, length, filter, refl, sym, ap, ◌∙◌}
-use Rattle.std.proofs.Common.{subst, arith, min, ◌-◌, leb, rules}
+use Rattle.std.proofs.Common.{◌≡◌, ℕ, zero, suc, ◌+◌, ◌*◌, ◌<◌, ◌≤◌, Bool, true, false, cond, List, [], ◌∷◌, length}
+use Rattle.std.proofs.Common.{filter, refl, sym}
+use Rattle.std.proofs.Common.{subst, arith, leb, rules}
 use Rattle.std.specs.Int.{div_ceil}
 use Rattle.std.proofs.lemmas.Grind.{div_ceil_times}
 use native.Mathlib.Decide.{ℕ_discrete}
@@ -8,13 +9,12 @@ use mathlib.Core.Logic.{dite}
 use Rattle.std.proofs.Math.Nat.{lt_of_mul-lt-mul_right}
 use Rattle.std.proofs.lemmas.Nat.{mul-le}
 use Rattle.mf_shape.specs.declared.Stage.{Stage}
-use Rattle.mf_shape.specs.Stages.{width_at, copies_at, max_width}
+use Rattle.mf_shape.specs.Stages.{copies_at, max_width}
 use Rattle.mf_shape.specs.Chain.{IsChain}
 use Rattle.mf_shape.proofs.Widths.{max_width-le-limit}
-use Rattle.mf_places.specs.declared.Name.{Name}
 use Rattle.mf_places.specs.Facts.{BookFacts, IsBook, chunks_of}
 use Rattle.mf_places.specs.Names.{count_of, all_names, max_parities}
-use Rattle.mf_places.specs.Numbers.{parities_in, parities_below, first_in}
+use Rattle.mf_places.specs.Numbers.{parities_in, parities_below}
 use Rattle.mf_places.specs.Generations.{holds}
 use Rattle.mf_places.proofs.Counts.{max_parities-le-four, max_parities-zero}
 use Rattle.mf_places.proofs.Names.{count_of-is}

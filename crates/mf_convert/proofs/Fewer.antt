@@ -1,7 +1,7 @@
 -- A conversion has few entries.
-use Rattle.std.proofs.Common.{◌≡◌, ℕ, zero, suc, ◌+◌, ◌-◌, ◌*◌, ◌/◌, ◌<◌, ◌≤◌, ◌^◌, true, false, List, [], ◌∷◌, ◌++◌, length, length-append, min, refl, sym, ap}
-use Rattle.std.proofs.Common.{◌∙◌, subst, arith, map, Option, ⊎_elim}
-use Rattle.std.specs.List.{range_with_len}
+use Rattle.std.proofs.Common.{◌≡◌, ℕ, zero, suc, ◌+◌, ◌-◌, ◌*◌, ◌<◌, ◌≤◌, ◌^◌, List, [], ◌∷◌, ◌++◌, length}
+use Rattle.std.proofs.Common.{length-append, min, refl, ap}
+use Rattle.std.proofs.Common.{arith, Option, ⊎_elim}
 use Rattle.std.proofs.Math.Nat.{div-le_self}
 use Rattle.std.proofs.lemmas.Bool.{cases_lt}
 use Rattle.std.proofs.lemmas.List.FromFn.{length-map-range_with_len}
@@ -9,13 +9,12 @@ use Rattle.mf_machine.specs.declared.answer.Slot.TheVariants.{Work}
 use Rattle.mf_machine.specs.declared.answer.State.{State}
 use Rattle.mf_machine.specs.declared.answer.State.TheVariants.{Unborn, Here, Lost, Away}
 use Rattle.mf_shape.specs.declared.Stage.{Stage}
-use Rattle.mf_shape.specs.Stages.{width_at, no_stage}
+use Rattle.mf_shape.specs.Stages.{width_at}
 use Rattle.mf_shape.specs.Chain.{IsChain}
 use Rattle.mf_code.specs.Stripes.{stripe_count}
 use Rattle.mf_places.specs.declared.Name.{Name}
 use Rattle.mf_places.specs.declared.Name.TheVariants as name
 use Rattle.mf_places.specs.Facts.{BookFacts, IsBook}
-use Rattle.mf_vault.specs.declared.answers.Got.TheVariants as got
 use Rattle.mf_vault.specs.Facts.{Facts}
 use Rattle.mf_vault.specs.Actor.{Actor, Call, entry_of}
 use Rattle.mf_vault.specs.Actor as call
@@ -23,7 +22,8 @@ use Rattle.mf_vault.specs.Licence.{entries_of}
 use Rattle.mf_convert.specs.declared.change.Change.{Change}
 use Rattle.mf_convert.specs.Create.{probes}
 use Rattle.mf_convert.specs.Convert as convert
-use Rattle.mf_convert.specs.Convert.{IsCut, IsConversion, IsConvert, Converts, gets, sources, make, makes, whole, names_of, factor_at}
+use Rattle.mf_convert.specs.Convert.{IsCut, IsConversion, IsConvert, Converts, gets, sources, make, makes, whole}
+use Rattle.mf_convert.specs.Convert.{names_of, factor_at}
 use Rattle.mf_convert.proofs.Courses.{get_few}
 use Rattle.mf_convert.proofs.Few.{names_few}
 
@@ -71,7 +71,8 @@ sources_few : (b : BookFacts) (g j p : ℕ) → IsBook b → length (sources b g
 sources_few b g j p book =
     let n = factor_at b g in
     let count = stripe_count b.chunk b.bytes (width_at b.shape.stages g) in
-    let long = length-map-range_with_len (λ i. name.Parity (width_at b.shape.stages g) i p) (j * n) (min ((j + 1) * n) count - j * n) in
+    let long = length-map-range_with_len (λ i. name.Parity (width_at b.shape.stages g) i p) (j * n)
+    (min ((j + 1) * n) count - j * n) in
     let wide = width_low book.shape.chain (g + 1) in
     let least = div-le_self (width_at b.shape.stages (g + 1)) (width_at b.shape.stages g) in
     omega arith
@@ -82,12 +83,15 @@ made_few f xs c low = let a = length-append (gets f xs) (c ∷ []) in let b = ge
 make_few : (f : Facts) (g : ℕ) (x : Name) (s : State) → IsBook f.book → length (make f g x s) ≤ 65
 make_few f g (name.Data i) s book = omega arith
 make_few f g (name.Copy c i) s book = omega arith
-make_few f g (name.Parity w j p) Unborn book = made_few f (sources f.book g j p) (call.put (name.Parity w j p)) (sources_few f.book g j p book)
+make_few f g (name.Parity w j p) Unborn book = made_few f (sources f.book g j p) (call.put (name.Parity w j p))
+    (sources_few f.book g j p book)
 make_few f g (name.Parity w j p) Here book = omega arith
-make_few f g (name.Parity w j p) (Lost l) book = made_few f (sources f.book g j p) (call.restore (name.Parity w j p)) (sources_few f.book g j p book)
+make_few f g (name.Parity w j p) (Lost l) book = made_few f (sources f.book g j p) (call.restore (name.Parity w j p))
+    (sources_few f.book g j p book)
 make_few f g (name.Parity w j p) (Away y) book = omega arith
 
-makes_few : (f : Facts) (g : ℕ) (xs : List Name) (ss : List State) → IsBook f.book → length (makes f g xs ss) ≤ length xs * 65
+makes_few : (f : Facts) (g : ℕ) (xs : List Name) (ss : List State) → IsBook f.book
+    → length (makes f g xs ss) ≤ length xs * 65
 makes_few f g [] ss book = omega arith
 makes_few f g (x ∷ xs) [] book = omega arith
 makes_few f g (x ∷ xs) (s ∷ ss) book =

@@ -18,3 +18,6 @@ pub mod Making
 pub mod Completing
 pub mod Fewer
 pub mod Converted
+pub mod Dataless
+pub mod OneEnd
+pub mod OnceConverted

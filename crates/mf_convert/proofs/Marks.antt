@@ -1,15 +1,11 @@
 -- What probes, gets, puts and restores leave in the view of a converter.
-use Rattle.std.proofs.Common.{◌≡◌, ◌≢◌, ℕ, ◌+◌, ◌<◌, ◌≤◌, Bool, true, false, List, [], ◌∷◌, ◌++◌, length, get_or, refl, sym, ap, ◌∙◌}
+use Rattle.std.proofs.Common.{◌≡◌, ◌≢◌, ℕ, ◌+◌, ◌<◌, Bool, true, false, List, [], ◌∷◌, refl, sym}
 use Rattle.std.proofs.Common.{subst, arith, ◌⊎◌, inl, inr}
-use Rattle.std.proofs.lemmas.Bool.{false≢true}
 use Rattle.mf_machine.specs.declared.answer.State.{State}
 use Rattle.mf_machine.specs.declared.answer.State.TheVariants.{Unborn, Here, Lost, Away}
-use Rattle.mf_machine.specs.declared.view.View.{View}
 use Rattle.mf_machine.specs.Actors.{Among}
-use Rattle.mf_machine.specs.Steps.{see_view}
 use Rattle.mf_machine.proofs.Lists.{bit_is}
 use Rattle.mf_places.specs.declared.Name.{Name}
-use Rattle.mf_places.specs.declared.Name.TheVariants as name
 use Rattle.mf_places.specs.declared.servers.Servers.{Servers}
 use Rattle.mf_places.specs.Generations.{holds}
 use Rattle.mf_places.specs.Servers.{IsIn}
@@ -18,7 +14,7 @@ use Rattle.mf_vault.specs.Facts.{Facts, number, server, stages, cell_of}
 use Rattle.mf_vault.specs.Actor.{Actor, Call, did}
 use Rattle.mf_vault.specs.Actor as call
 use Rattle.mf_vault.specs.Answers.{Goes, IsReached}
-use Rattle.mf_vault.specs.Licence.{Does, did_all, IsFile}
+use Rattle.mf_vault.specs.Licence.{did_all, IsFile}
 use Rattle.mf_vault.specs.May.{MayPut, MayRestore, MayProbe, MayGet}
 use Rattle.mf_vault.proofs.Held.{may_probe_next, may_put_next, may_restore_next, may_get_work, work_holds}
 use Rattle.mf_convert.specs.Create.{bring}
@@ -54,7 +50,8 @@ get_keeps m x c a = record { unborn = λ h. h; lost = λ h. h; settled = λ h. o
 
 pub gets_keep : (m : ℕ) (f : Facts) (xs : List Name) (a : Actor) → Keeps m a (did_all (gets f xs) a)
 gets_keep m f [] a = keeps_same m a
-gets_keep m f (x ∷ xs) a = keeps_on (get_keeps m x (cell_of f x) a) (gets_keep m f xs (did (call.get x (got.Here (cell_of f x))) a))
+gets_keep m f (x ∷ xs) a = keeps_on (get_keeps m x (cell_of f x) a)
+    (gets_keep m f xs (did (call.get x (got.Here (cell_of f x))) a))
 
 -- those of another name stay over a put or restore, and what is settled stays settled
 pub bring_keeps : (m : ℕ) (x : Name) (s : State) (a : Actor) → m ≢ number a.facts x → Keeps m a (did_all (bring x s) a)
@@ -67,7 +64,8 @@ bring_keeps m x s a ne = let b = brought m x s a in record {
 -- a name is reached as long as the same servers are cut off
 pub reached_stays : (a b : Actor) (x : Name) → b.facts ≡ a.facts → b.cut ≡ a.cut → IsReached a x → IsReached b x
 reached_stays a b x e c r =
-    subst (λ (f : Facts). IsIn b.cut (server f x) → ⊥) (sym e) (subst (λ (s : Servers). IsIn s (server a.facts x) → ⊥) (sym c) r)
+    subst (λ (f : Facts). IsIn b.cut (server f x) → ⊥) (sym e) (subst (λ (s : Servers). IsIn s (server a.facts x)
+    → ⊥) (sym c) r)
 
 -- what is known of a name stays
 pub found_stays : (g : ℕ) {a b : Actor} (x : Name) (s : State) → b.facts ≡ a.facts → b.cut ≡ a.cut
@@ -77,7 +75,8 @@ found_stays g {a = a} {b = b} x Unborn e c k h = (
   subst (λ (f : Facts). Among (number f x) b.view.build.unborn) (sym e) (k.unborn h.1),
   reached_stays a b x e c h.2,
 )
-found_stays g {b = b} x Here e c k h = subst (λ (f : Facts). Among (number f x) b.view.build.settled) (sym e) (k.settled h)
+found_stays g {b = b} x Here e c k h = subst (λ (f : Facts). Among (number f x) b.view.build.settled) (sym e)
+    (k.settled h)
 found_stays g {a = a} {b = b} x (Lost l) e c k h = (
   subst (λ (f : Facts). holds f.book g x ≡ false) (sym e) h.0,
   subst (λ (f : Facts). Among (number f x) b.view.build.lost) (sym e) (k.lost h.1),
@@ -97,12 +96,14 @@ found_by g x (Away y) a on fair = on
 
 pub found_here : (g : ℕ) {x : Name} {s : State} {a b : Actor} → Goes (call.probe x s) a b → GoesOn a.facts.book g x s
     → IsFound g b x s
-found_here g {x = x} {s = s} {a = a} go on = subst (λ (z : Actor). IsFound g z x s) (sym go.becomes) (found_by g x s a on go.fair)
+found_here g {x = x} {s = s} {a = a} go on = subst (λ (z : Actor). IsFound g z x s) (sym go.becomes)
+    (found_by g x s a on go.fair)
 
 -- where the calls on a name may happen
 pub may_probe : {g : ℕ} (x : Name) {a : Actor} → IsConverter g a → IsFile a.facts → holds a.facts.book (g + 1) x ≡ true
     → MayProbe x a
-may_probe {g = g} x {a = a} k file h = may_probe_next a (g + 1) x k.building k.low (has_name a.facts (g + 1) x file k.low h) h
+may_probe {g = g} x {a = a} k file h = may_probe_next a (g + 1) x k.building k.low
+    (has_name a.facts (g + 1) x file k.low h) h
 
 pub may_put : {g : ℕ} (x : Name) {s : State} {a : Actor} → IsConverter g a → IsFile a.facts
     → holds a.facts.book (g + 1) x ≡ true → s ≡ Unborn → IsFound g a x s → MayPut x a
@@ -122,11 +123,13 @@ low_before g q h = omega arith
 pub may_get : {g : ℕ} (x : Name) {a : Actor} → IsConverter g a → IsFile a.facts → holds a.facts.book g x ≡ true
     → MayGet x a
 may_get {g = g} x {a = a} k file h =
-    may_get_work a g x k.work (low_before g (stages a.facts) k.low) (has_name a.facts g x file (low_before g (stages a.facts) k.low) h) h
+    may_get_work a g x k.work (low_before g (stages a.facts) k.low)
+    (has_name a.facts g x file (low_before g (stages a.facts) k.low) h) h
 
 -- a name that was found Unborn isn't held by the pinned generation
 not_pinned : (g : ℕ) (x : Name) (a : Actor) (t : Bool) → holds a.facts.book g x ≡ t → IsConverter g a → IsFile a.facts
-    → (Rattle.mf_machine.specs.Actors.PinHolds (Rattle.mf_vault.specs.Facts.file a.facts) a.view.hold a.view.work (number a.facts x) → ⊥)
+    → (Rattle.mf_machine.specs.Actors.PinHolds (Rattle.mf_vault.specs.Facts.file a.facts) a.view.hold a.view.work
+    (number a.facts x) → ⊥)
     → holds a.facts.book g x ≡ false
 not_pinned g x a false e k file none = e
 not_pinned g x a true e k file none =

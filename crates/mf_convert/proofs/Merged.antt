@@ -1,10 +1,10 @@
 -- A parity of the next generation, from those that it is merged from.
-use Rattle.std.proofs.Common.{◌≡◌, ℕ, zero, suc, ◌+◌, ◌-◌, ◌*◌, ◌/◌, ◌%◌, ◌<◌, ◌≤◌, true, List, [], ◌∷◌, length, map, get_or, All, refl, sym, ap}
+use Rattle.std.proofs.Common.{◌≡◌, ℕ, ◌+◌, ◌-◌, ◌*◌, ◌/◌, ◌%◌, ◌<◌, ◌≤◌, true, List, [], length, map, get_or, All}
+use Rattle.std.proofs.Common.{refl, sym, ap}
 use Rattle.std.proofs.Common.{◌∙◌, subst, arith}
 use Rattle.std.specs.List.{range_with_len}
 use Rattle.std.proofs.Math.Nat.{mod-eq-sub-div-mul, div-mul-le_self}
 use Rattle.std.proofs.lemmas.Nat.{mul-le}
-use Rattle.std.proofs.lemmas.List.{get_or_default}
 use Rattle.std.proofs.lemmas.Simd.{map-map}
 use Rattle.std.proofs.lemmas.List.Elements.{All-map}
 use Rattle.std.proofs.lemmas.List.FromFn.{length-map-range_with_len}
@@ -13,11 +13,9 @@ use Rattle.mf_code.specs.Stripes.{narrow_stripes, narrow_parities}
 use Rattle.mf_code.proofs.Lists.{length-parity}
 use Rattle.mf_merge.specs.Merged.{first_length}
 use Rattle.mf_shape.specs.Stages.{width_at, parities_at}
-use Rattle.mf_places.specs.declared.Name.{Name}
 use Rattle.mf_places.specs.declared.Name.TheVariants as name
 use Rattle.mf_places.specs.Facts.{BookFacts}
 use Rattle.mf_places.specs.Generations.{holds}
-use Rattle.mf_places.specs.Names.{stripes_of}
 use Rattle.mf_places.proofs.Held.{parities_at-le-first}
 use Rattle.mf_vault.specs.Facts.{Facts, cell_of, stages}
 use Rattle.mf_vault.specs.Licence.{IsFile}
@@ -32,14 +30,16 @@ whole_times n m e = let a = mod-eq-sub-div-mul n m in let b = div-mul-le_self n 
 pub factor_whole : (f : Facts) (g : ℕ) → IsFile f → g + 1 < stages f
     → factor_at f.book g * width_at f.book.shape.stages g ≡ width_at f.book.shape.stages (g + 1)
 factor_whole f g file low =
-    whole_times (width_at f.book.shape.stages (g + 1)) (width_at f.book.shape.stages g) (file.layout.shape.chain.steps g low).width
+    whole_times (width_at f.book.shape.stages (g + 1)) (width_at f.book.shape.stages g)
+    (file.layout.shape.chain.steps g low).width
 
 pub factor_low : (w t f : ℕ) → f * w ≡ t → 0 < w → t ≤ 64 → f ≤ 64
 factor_low w t f e pos low = let a = mul-le f 1 f w (omega arith) pos in omega arith
 
 pub factor_few : (f : Facts) (g : ℕ) → IsFile f → g + 1 < stages f → factor_at f.book g ≤ 64
 factor_few f g file low =
-    factor_low (width_at f.book.shape.stages g) (width_at f.book.shape.stages (g + 1)) (factor_at f.book g) (factor_whole f g file low)
+    factor_low (width_at f.book.shape.stages g) (width_at f.book.shape.stages (g + 1)) (factor_at f.book g)
+    (factor_whole f g file low)
     (file.layout.shape.chain.widths g (omega arith)).0 (file.layout.shape.chain.widths (g + 1) low).1
 
 -- a point for each parity
@@ -100,7 +100,8 @@ each_long f w p first end cells is =
     subst (λ (l : List (List ℕ)). All (λ x. length x ≡ f.book.chunk) l) (sym (make_each f w p first end cells is))
     (All-map (λ x. length x ≡ f.book.chunk) (parity f.book.chunk f.bytes (get_or f.book.points p 0) w)
     (range_with_len first (end - first))
-    (λ k d low. length-parity f.book.chunk f.bytes (get_or f.book.points p 0) w (get_or (range_with_len first (end - first)) k d)))
+    (λ k d low. length-parity f.book.chunk f.bytes (get_or f.book.points p 0) w
+    (get_or (range_with_len first (end - first)) k d)))
 
 pub one_length : (f : Facts) (w p first end : ℕ) (cells : List (List ℕ)) → first < end
     → AreCells f w p first end cells → All (λ x. length x ≡ first_length cells) cells

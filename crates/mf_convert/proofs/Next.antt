@@ -1,12 +1,9 @@
 -- The names of the next generation.
-use Rattle.std.proofs.Common.{◌≡◌, ◌≢◌, ℕ, ◌+◌, ◌*◌, ◌<◌, ◌≤◌, Bool, true, false, List, [], ◌∷◌, length, get_or, filter}
-use Rattle.std.proofs.Common.{refl, sym, ap, ◌∙◌, subst, arith, IsTrue, rules}
-use Rattle.std.specs.List.{AllPairs}
-use Rattle.std.proofs.lemmas.Bool.{false≢true}
+use Rattle.std.proofs.Common.{◌≡◌, ◌≢◌, ℕ, ◌+◌, ◌<◌, Bool, true, List, length, get_or}
+use Rattle.std.proofs.Common.{sym, ap, ◌∙◌, subst, arith, IsTrue, rules}
 use Rattle.std.proofs.lemmas.List.Elements.{filter_passes}
 use Rattle.std.proofs.lemmas.List.Kept.{AllPairs-filter}
-use Rattle.mf_shape.specs.Stages.{width_at, parities_at, copies_at}
-use Rattle.mf_shape.specs.Chain.{IsChain}
+use Rattle.mf_shape.specs.Stages.{width_at}
 use Rattle.mf_places.specs.declared.Name.{Name}
 use Rattle.mf_places.specs.declared.Name.TheVariants as name
 use Rattle.mf_places.specs.declared.Name.TheVariants.{Data}
@@ -64,7 +61,8 @@ next_held f t i d low = filter_passes (holds f.book t) (all_names f.book) i d lo
 pub next_apart : (f : Facts) (t i j : ℕ) (d : Name) → i < j → j < length (names_of f t)
     → number f (get_or (names_of f t) i d) ≢ number f (get_or (names_of f t) j d)
 next_apart f t i j d less low =
-    AllPairs-filter (λ x y. number_of f.book x ≢ number_of f.book y) (holds f.book t) (all_names f.book) (all_apart f.book) i j d less low
+    AllPairs-filter (λ x y. number_of f.book x ≢ number_of f.book y) (holds f.book t) (all_names f.book)
+    (all_apart f.book) i j d less low
 
 pub next_found : (f : Facts) (t : ℕ) (x : Name) → HasName f.book x → holds f.book t x ≡ true
     → StandsIn x (Data 0) (names_of f t)
@@ -72,7 +70,8 @@ unfolding name_at count_of
 next_found f t x had h =
     let at = IsAt-number f.book x had in
     subst (λ y. StandsIn y (Data 0) (names_of f t)) at.at
-    (found_in (holds f.book t) (all_names f.book) (number_of f.book x) (Data 0) at.below (ap (holds f.book t) at.at ∙ h))
+    (found_in (holds f.book t) (all_names f.book) (number_of f.book x) (Data 0) at.below (ap (holds f.book t) at.at
+    ∙ h))
 
 -- a name of the list, for an actor of the same facts
 pub nth_held : (t : ℕ) (names : List Name) (i : ℕ) (d : Name) {f h : Facts} → h ≡ f → names ≡ names_of f t

@@ -21,22 +21,22 @@ use Rattle.mf_convert.specs.Remove.{IsRemove, Removes}
 use Rattle.mf_convert.specs.Laws.{CreatesOnce, RemovesOnce}
 
 -- the first call, and the others
-first : {c : Call} {cs : List Call} {a b : Actor} → Does (c ∷ cs) a b → Goes c a (did c a)
+pub first : {c : Call} {cs : List Call} {a b : Actor} → Does (c ∷ cs) a b → Goes c a (did c a)
 first d = record { becomes = refl; fair = d.fair.0; told = d.told.0 }
 
-rest : {c : Call} {cs : List Call} {a b : Actor} → Does (c ∷ cs) a b → Does cs (did c a) b
+pub rest : {c : Call} {cs : List Call} {a b : Actor} → Does (c ∷ cs) a b → Does cs (did c a) b
 rest d = record { becomes = d.becomes; fair = d.fair.1; told = d.told.1 }
 
 -- what follows a call that two lists share
-rest_of : {c d : Call} {ds : List Call} {a b : Actor} → c ≡ d → Does (d ∷ ds) a b → Does ds (did c a) b
+pub rest_of : {c d : Call} {ds : List Call} {a b : Actor} → c ≡ d → Does (d ∷ ds) a b → Does ds (did c a) b
 rest_of {ds = ds} {a = a} {b = b} e x = subst (λ k. Does ds (did k a) b) (sym e) (rest x)
 
 -- the same calls lead to the same actor
-same : {cs ds : List Call} {a b c : Actor} → cs ≡ ds → Does cs a b → Does ds a c → b ≡ c
+pub same : {cs ds : List Call} {a b c : Actor} → cs ≡ ds → Does cs a b → Does ds a c → b ≡ c
 same {a = a} e x y = x.becomes ∙ (ap (λ l. did_all l a) e ∙ sym y.becomes)
 
 -- the whole state goes on being told
-goes_on : (c : Call) (a : Actor) {w : World} → a.whole ≡ Some w → (v : World) × ((did c a).whole ≡ Some v)
+pub goes_on : (c : Call) (a : Actor) {w : World} → a.whole ≡ Some w → (v : World) × ((did c a).whole ≡ Some v)
 goes_on c a e = (_, ap (onward _) e)
 
 states_once : (xs : List Name) (ss ts : List State) (r q : List Call) {a b c : Actor} (w : World)
@@ -55,31 +55,31 @@ states_once (z ∷ xs) (s ∷ ss) (t ∷ ts) r q {a = a} w m n e x y =
     (λ j. answer j ∷ others j)
 
 -- two begins, and two pins behind them, are the same
-begins : {s t : Bool} {cs ds : List Call} {a b c : Actor} {w : World} → a.whole ≡ Some w → Does (begin s ∷ cs) a b
+pub begins : {s t : Bool} {cs ds : List Call} {a b c : Actor} {w : World} → a.whole ≡ Some w → Does (begin s ∷ cs) a b
     → Does (begin t ∷ ds) a c
     → s ≡ t
 begins {s = s} {t = t} {a = a} {w = w} e x y = one_answer.begin a _ _ w s t e (first x) (first y)
 
-pins : {gs hs : List ℕ} {p q : Pinned} {cs ds : List Call} {a b c : Actor} {w : World} → a.whole ≡ Some w
+pub pins : {gs hs : List ℕ} {p q : Pinned} {cs ds : List Call} {a b c : Actor} {w : World} → a.whole ≡ Some w
     → Does (begin true ∷ pin Work gs p ∷ cs) a b → Does (begin true ∷ pin Work hs q ∷ ds) a c → (gs ≡ hs) × (p ≡ q)
 pins {gs = gs} {hs = hs} {p = p} {q = q} {a = a} e x y =
     let on = goes_on (begin true) a e in
     one_answer.pin (did (begin true) a) _ _ on.0 Work gs hs p q on.1 (first (rest x)) (first (rest y))
 
-at_absent : (g : ℕ) → At g ≡ Absent → ⊥
+pub at_absent : (g : ℕ) → At g ≡ Absent → ⊥
 at_absent g e = let z : At g ≡ Absent = e in cc
 
-at_removed : (g : ℕ) → At g ≡ Removed → ⊥
+pub at_removed : (g : ℕ) → At g ≡ Removed → ⊥
 at_removed g e = let z : At g ≡ Removed = e in cc
 
-removed_absent : Removed ≡ Absent → ⊥
+pub removed_absent : Removed ≡ Absent → ⊥
 removed_absent e = let z : Removed ≡ Absent = e in cc
 
-false_true : false ≡ true → ⊥
+pub false_true : false ≡ true → ⊥
 false_true e = let z : false ≡ true = e in cc
 
 -- a pin in a list of calls
-abbrev after_pin : List ℕ → Pinned → List Call → List Call
+abbrev pub after_pin : List ℕ → Pinned → List Call → List Call
 after_pin gs p cs = begin true ∷ pin Work gs p ∷ cs
 
 created_once : (f : Facts) (ms ns : List ℕ) (ss ts : List State) {a b c : Actor} {w : World}

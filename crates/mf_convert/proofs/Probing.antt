@@ -1,5 +1,6 @@
 -- The probes of the next generation in turn.
-use Rattle.std.proofs.Common.{◌≡◌, ℕ, suc, ◌+◌, ◌<◌, ◌≤◌, List, [], ◌∷◌, ◌++◌, length, take, drop, get_or, refl, sym, ap, ◌∙◌, subst}
+use Rattle.std.proofs.Common.{◌≡◌, ℕ, suc, ◌+◌, ◌<◌, List, [], ◌∷◌, ◌++◌, length, take, drop, get_or, refl, sym, ap}
+use Rattle.std.proofs.Common.{◌∙◌, subst}
 use Rattle.std.proofs.Common.{arith, length-take-le}
 use Rattle.std.proofs.lemmas.List.{take_more, length_push, get_or_push, get_or_append_left, get_or_default}
 use native.Mathlib.Decide.{ℕ_discrete}
@@ -8,12 +9,12 @@ use Rattle.mf_machine.specs.declared.answer.State.{State}
 use Rattle.mf_machine.specs.declared.answer.State.TheVariants.{Here}
 use Rattle.mf_places.specs.declared.Name.{Name}
 use Rattle.mf_places.specs.Facts.{BookFacts}
-use Rattle.mf_vault.specs.Facts.{Facts, number}
+use Rattle.mf_vault.specs.Facts.{number}
 use Rattle.mf_vault.specs.Actor.{Actor, Call, did}
 use Rattle.mf_vault.specs.Actor as call
 use Rattle.mf_vault.specs.Answers.{Goes}
 use Rattle.mf_vault.specs.Licence.{Does}
-use Rattle.mf_vault.proofs.Doing.{more, facts_stay, facts_kept}
+use Rattle.mf_vault.proofs.Doing.{more}
 use Rattle.mf_convert.specs.declared.change.Change.{Change}
 use Rattle.mf_convert.specs.declared.course.Course.{Course}
 use Rattle.mf_convert.specs.Create.{probes}
@@ -60,18 +61,23 @@ pub probed_more : (xs : List Name) (ss : List State) {ts : List State} (n : ℕ)
     → Does (probes (take (n + 1) xs) ts) a c
 probed_more xs ss n d {s = s} {a = a} {c = c} p long g e low =
     let calls : Does (probes (take n xs) ss ++ call.probe (get_or xs n d) s ∷ []) a c = more p g in
-    let same = probes_then (take n xs) (get_or xs n d ∷ []) ss (s ∷ []) (length-take-le n xs (omega arith) ∙ sym long) in
+    let same = probes_then (take n xs) (get_or xs n d ∷ []) ss (s ∷ []) (length-take-le n xs (omega arith)
+    ∙ sym long) in
     subst (λ l. Does (probes (take (n + 1) xs) l) a c) (sym e)
-    (subst (λ l. Does (probes l (ss ++ s ∷ [])) a c) (sym (take_more xs n d low)) (subst (λ l. Does l a c) (sym same) calls))
+    (subst (λ l. Does (probes l (ss ++ s ∷ [])) a c) (sym (take_more xs n d low))
+    (subst (λ l. Does l a c) (sym same) calls))
 
-pub all_more : (b : BookFacts) (g : ℕ) (xs : List Name) (ss : List State) {ts : List State} (n : ℕ) (d : Name) (s : State)
+pub all_more : (b : BookFacts) (g : ℕ) (xs : List Name) (ss : List State) {ts : List State} (n : ℕ) (d : Name)
+    (s : State)
     → AllGoOn b g (take n xs) ss → GoesOn b g (get_or xs n d) s → ts ≡ ss ++ s ∷ [] → n < length xs
     → AllGoOn b g (take (n + 1) xs) ts
 all_more b g xs ss n d s h k e low =
     subst (λ l. AllGoOn b g (take (n + 1) xs) l) (sym e)
-    (subst (λ l. AllGoOn b g l (ss ++ s ∷ [])) (sym (take_more xs n d low)) (all_then b g (take n xs) (get_or xs n d ∷ []) ss (s ∷ []) h (k, tt)))
+    (subst (λ l. AllGoOn b g l (ss ++ s ∷ [])) (sym (take_more xs n d low))
+    (all_then b g (take n xs) (get_or xs n d ∷ []) ss (s ∷ []) h (k, tt)))
 
-pub found_more : (g : ℕ) (names : List Name) (states : List State) {all : List State} (n : ℕ) (d : Name) {s : State} {a b : Actor}
+pub found_more : (g : ℕ) (names : List Name) (states : List State) {all : List State} (n : ℕ)
+    (d : Name) {s : State} {a b : Actor}
     → AreFound g a 0 names states → length states ≡ n → Goes (call.probe (get_or names n d) s) a b
     → GoesOn a.facts.book g (get_or names n d) s
     → all ≡ states ++ s ∷ [] → n < length names → AreFound g b 0 names all
@@ -106,7 +112,8 @@ cut_at {c = c} names states n d {o = o} {a = a} {z = z} does on long low k =
     record {
       states = states ++ after;
       on = subst (λ l. AllGoOn a.facts.book c.from l (states ++ after)) (sym split)
-          (all_then a.facts.book c.from (take n names) (x ∷ rest) states after on (tt, heres_on a.facts.book c.from rest));
+          (all_then a.facts.book c.from (take n names) (x ∷ rest) states after on
+          (tt, heres_on a.facts.book c.from rest));
       cuts = subst (λ l. Cuts c (probes l (states ++ after)) o a z) (sym split)
           (subst (λ l. Cuts c l o a z) (sym same) (cut_behind does (cut_before (probes rest (heres rest)) k)));
     }

@@ -1,12 +1,11 @@
 -- The gets of a row of parities, and their stripes.
-use Rattle.std.proofs.Common.{◌≡◌, ℕ, zero, suc, ◌+◌, ◌-◌, ◌*◌, ◌/◌, ◌<◌, ◌≤◌, List, [], ◌∷◌, ◌++◌, length, map, take, drop, get_or, min}
-use Rattle.std.proofs.Common.{refl, sym, ap, ◌∙◌, subst, arith}
-use Rattle.std.specs.List.{range_with_len}
+use Rattle.std.proofs.Common.{◌≡◌, ℕ, zero, suc, ◌*◌, ◌<◌, List, [], ◌∷◌, ◌++◌, length, take, drop, get_or}
+use Rattle.std.proofs.Common.{refl, sym, ap, ◌∙◌, arith}
 use Rattle.std.specs.Int.{div_ceil}
 use Rattle.std.proofs.Math.Seq.{drop-cons}
 use Rattle.std.proofs.Math.Nat.{lt_of_mul-lt-mul_right, mul-le-mul_right, mul_assoc}
 use Rattle.std.proofs.lemmas.Grind.{div_ceil_times}
-use Rattle.std.proofs.lemmas.List.{take-append-drop, append_assoc}
+use Rattle.std.proofs.lemmas.List.{take-append-drop}
 use Rattle.mf_places.specs.declared.Name.{Name}
 use Rattle.mf_vault.specs.Facts.{Facts}
 use Rattle.mf_vault.specs.Actor.{Call}
@@ -19,7 +18,9 @@ around xs k d low = sym (take-append-drop k xs) ∙ ap (λ l. take k xs ++ l) (d
 
 pub gets_then : (f : Facts) (xs ys : List Name) → gets f (xs ++ ys) ≡ gets f xs ++ gets f ys
 gets_then f [] ys = refl
-gets_then f (x ∷ xs) ys = λ i. Rattle.mf_vault.specs.Actor.get x (Rattle.mf_vault.specs.declared.answers.Got.TheVariants.Here (Rattle.mf_vault.specs.Facts.cell_of f x)) ∷ gets_then f xs ys i
+gets_then f (x ∷ xs) ys = λ i. Rattle.mf_vault.specs.Actor.get x
+    (Rattle.mf_vault.specs.declared.answers.Got.TheVariants.Here
+    (Rattle.mf_vault.specs.Facts.cell_of f x)) ∷ gets_then f xs ys i
 
 -- the gets around place k
 pub gets_around : (f : Facts) (xs : List Name) (k : ℕ) (d : Name) → k < length xs

@@ -1,19 +1,18 @@
 -- What the chunk operations of a conversion leave as it was.
-use Rattle.std.proofs.Common.{◌≡◌, ℕ, ◌+◌, ◌<◌, List, [], ◌∷◌, ◌++◌, refl, sym, ap, ◌∙◌, subst}
+use Rattle.std.proofs.Common.{◌≡◌, ℕ, ◌+◌, ◌<◌, List, [], ◌∷◌, ◌++◌, refl, sym, ◌∙◌, subst}
 use Rattle.mf_machine.specs.declared.answer.State.{State}
 use Rattle.mf_machine.specs.declared.answer.State.TheVariants.{Unborn, Here, Lost, Away}
 use Rattle.mf_places.specs.declared.Name.{Name}
 use Rattle.mf_places.specs.declared.Name.TheVariants as name
-use Rattle.mf_places.specs.declared.servers.Servers.{Servers}
 use Rattle.mf_vault.specs.declared.answers.Got.{Got}
 use Rattle.mf_vault.specs.declared.answers.Got.TheVariants as got
 use Rattle.mf_vault.specs.Facts.{Facts, stages}
 use Rattle.mf_vault.specs.Actor.{Actor, Call, did}
 use Rattle.mf_vault.specs.Actor as call
-use Rattle.mf_vault.specs.Licence.{Does, did_all, IsBuilding}
+use Rattle.mf_vault.specs.Licence.{Does, did_all}
 use Rattle.mf_vault.proofs.Doing.{facts_stay}
 use Rattle.mf_convert.specs.declared.change.Change.{Change}
-use Rattle.mf_convert.specs.Create.{probes, bring}
+use Rattle.mf_convert.specs.Create.{probes}
 use Rattle.mf_convert.specs.Convert as convert
 use Rattle.mf_convert.specs.Convert.{IsCut, gets, make, makes, whole, names_of, sources}
 use Rattle.mf_convert.specs.Converting.{IsConverter}
@@ -124,9 +123,11 @@ probes_ops (x ∷ xs) (s ∷ ss) = (tt, probes_ops xs ss)
 pub make_ops : (f : Facts) (g : ℕ) (x : Name) (s : State) → AreOps (make f g x s)
 make_ops f g (name.Data i) s = tt
 make_ops f g (name.Copy c i) s = tt
-make_ops f g (name.Parity w j p) Unborn = ops_then (gets f (sources f.book g j p)) (call.put (name.Parity w j p) ∷ []) (gets_ops f (sources f.book g j p)) (tt, tt)
+make_ops f g (name.Parity w j p) Unborn = ops_then (gets f (sources f.book g j p)) (call.put (name.Parity w j p) ∷ [])
+    (gets_ops f (sources f.book g j p)) (tt, tt)
 make_ops f g (name.Parity w j p) Here = tt
-make_ops f g (name.Parity w j p) (Lost l) = ops_then (gets f (sources f.book g j p)) (call.restore (name.Parity w j p) ∷ []) (gets_ops f (sources f.book g j p)) (tt, tt)
+make_ops f g (name.Parity w j p) (Lost l) = ops_then (gets f (sources f.book g j p))
+    (call.restore (name.Parity w j p) ∷ []) (gets_ops f (sources f.book g j p)) (tt, tt)
 make_ops f g (name.Parity w j p) (Away y) = tt
 
 pub makes_ops : (f : Facts) (g : ℕ) (xs : List Name) (ss : List State) → AreOps (makes f g xs ss)

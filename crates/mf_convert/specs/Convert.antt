@@ -115,7 +115,8 @@ pub data IsConvert (f : Facts) (upto : ℕ) : Change → List Call → Type 0 wh
   converting : (missed : List ℕ) (g : ℕ) (o : Change) (done : List Call) → g < upto → IsConversion f g o done
       → IsConvert f upto o (begin true ∷ pin Work missed (pinned.At g) ∷ (done ++ unpin Work ∷ end ∷ []))
 
--- What the entries of a convert say of its outcome: `made` is how many puts and restores they have. Where it stops after
+-- What the entries of a convert say of its outcome: `made` is how many puts and restores they have. Where it stops
+-- after
 -- so many entries, it is Stopped with just so many, and has no more with any other outcome.
 abbrev pub IsCounted : (stop : Option ℕ) → List Entry → Change → Type 0
 IsCounted stop entries (change.Converted from to made) =

@@ -1,5 +1,6 @@
 -- What a conversion knows on its way.
-use Rattle.std.specs.Prelude.{◌≡◌, ◌⊎◌, ℕ, ◌+◌, ◌-◌, ◌<◌, ◌≤◌, ◌^◌, Bool, true, false, List, [], ◌∷◌, ◌++◌, length, drop, slice_index_or}
+use Rattle.std.specs.Prelude.{◌≡◌, ◌⊎◌, ℕ, ◌+◌, ◌-◌, ◌<◌, ◌≤◌, Bool, true, false, List, [], length, drop}
+use Rattle.std.specs.Prelude.{slice_index_or}
 use Rattle.std.specs.Prelude.{Option, Some, IfSome, map}
 use Rattle.std.specs.List.{range_with_len}
 use Rattle.mf_code.specs.Stripes.{narrow_stripes}
@@ -13,7 +14,7 @@ use Rattle.mf_places.specs.Facts.{BookFacts}
 use Rattle.mf_places.specs.Generations.{holds}
 use Rattle.mf_places.specs.Names.{stripes_of}
 use Rattle.mf_vault.specs.declared.answers.Entry.{Entry}
-use Rattle.mf_vault.specs.Facts.{Facts, number, stages}
+use Rattle.mf_vault.specs.Facts.{number, stages}
 use Rattle.mf_vault.specs.Actor.{Actor, Call}
 use Rattle.mf_vault.specs.Answers.{IsReached}
 use Rattle.mf_vault.specs.Counting.{io_of}

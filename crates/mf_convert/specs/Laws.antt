@@ -1,5 +1,5 @@
 -- What follows of a create, a convert and a remove.
-use Rattle.std.specs.Prelude.{◌≡◌, ◌≢◌, ℕ, ◌<◌, ◌^◌, List, ◌++◌, length, Option, Some}
+use Rattle.std.specs.Prelude.{◌≡◌, ◌≢◌, ℕ, List, ◌++◌, Option, Some}
 use Rattle.mf_machine.specs.Worlds.{World}
 use Rattle.mf_vault.specs.declared.answers.Entry.{Entry}
 use Rattle.mf_vault.specs.Actor.{Actor}

@@ -6,8 +6,8 @@ ghost use Rattle.mf_convert.specs.Converting.{since, IsInTime, MayGoOn, IsStoppe
 use crate::change::Change;
 use mf_vault::{Access, Entry, count_io};
 
-/// The generation that a conversion goes on from, after how many chunk operations it stops, where it
-/// is to stop, and how many entries the ledger had when it began.
+/// The generation that a conversion goes on from, after how many chunk operations it stops, where
+/// it is to stop, and how many entries the ledger had when it began.
 #[derive(Clone, Copy)]
 pub(crate) struct Course {
     pub from: u32,

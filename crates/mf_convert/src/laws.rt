@@ -1,5 +1,5 @@
-//! What follows of creating and removing a file.
-ghost use Rattle.mf_convert.specs.Laws.{CreatesOnce, RemovesOnce};
+//! What follows of creating, converting and removing a file.
+ghost use Rattle.mf_convert.specs.Laws.{CreatesOnce, RemovesOnce, ConvertsOnce, ReadsNoData};
 
 /// Where the whole state is told, a create that had its memory has one outcome, and leaves one
 /// actor.
@@ -10,4 +10,15 @@ pub fn create_has_one_result()
 /// Where the whole state is told, a remove has one outcome, and leaves one actor.
 pub fn remove_has_one_result()
     ensures { RemovesOnce }
+{}
+
+/// Where the whole state is told, a convert that had its memory has one outcome, and leaves one
+/// actor.
+pub fn convert_has_one_result()
+    ensures { ConvertsOnce }
+{}
+
+/// A convert reads no data and no copy.
+pub fn no_data_is_read()
+    ensures { ReadsNoData }
 {}

@@ -13,5 +13,7 @@ mod removing;
 pub use change::Change;
 pub use converting::convert;
 pub use creating::create;
-pub use laws::{create_has_one_result, remove_has_one_result};
+pub use laws::{
+    convert_has_one_result, create_has_one_result, no_data_is_read, remove_has_one_result,
+};
 pub use removing::remove;

@@ -1,4 +1,4 @@
-use Rattle.std.proofs.Common.{◌≡◌, ◌+◌, sym, ap, ◌∙◌, subst, arith}
+use Rattle.std.proofs.Common.{ap, ◌∙◌, arith}
 use Rattle.mf_vault.specs.Actor.{Actor}
 use Rattle.mf_vault.proofs.Doing.{one, then}
 use Rattle.mf_vault.proofs.Entering.{entered}
@@ -57,12 +57,13 @@ returns-in-Absent-clause-leaves g c = left_at_once (entered c.if-not-begin.ensur
     c.requires.idle.work c.end-in-Absent.ensures.goes
 
 pub returns-in-Removed-clause-licence : goal.returns-in-Removed-clause-licence
-returns-in-Removed-clause-licence g c = let e = entered c.if-not-begin.ensures.goes c.in-Removed.ensures.goes in record {
-  calls = _;
-  licence = convert.was_removed e.missed;
-  counted = nothing_counted c.args.stop;
-  does = then e.does (one c.end-in-Removed.ensures.goes);
-}
+returns-in-Removed-clause-licence g c = let e = entered c.if-not-begin.ensures.goes c.in-Removed.ensures.goes in
+    record {
+      calls = _;
+      licence = convert.was_removed e.missed;
+      counted = nothing_counted c.args.stop;
+      does = then e.does (one c.end-in-Removed.ensures.goes);
+    }
 
 pub returns-in-Removed-clause-leaves : goal.returns-in-Removed-clause-leaves
 returns-in-Removed-clause-leaves g c = left_at_once (entered c.if-not-begin.ensures.goes c.in-Removed.ensures.goes)

@@ -1,8 +1,7 @@
-use Rattle.std.proofs.Common.{◌≡◌, ◌+◌, ◌*◌, ◌≤◌, true, take, length, refl, sym, ap, ◌∙◌, subst, arith}
+use Rattle.std.proofs.Common.{◌+◌, take, refl, sym, ap, subst, arith}
 use Rattle.std.proofs.Math.Nat.{mul-le-mul_right}
 use Rattle.mf_machine.specs.declared.answer.State.TheVariants.{Unborn}
 use Rattle.mf_places.specs.declared.Name.TheVariants.{Data}
-use Rattle.mf_places.specs.Generations.{holds}
 use Rattle.mf_vault.specs.Conditions.{IsOfFamily}
 use Rattle.mf_vault.specs.Facts.{Facts}
 use Rattle.mf_vault.proofs.Doing.{facts_stay}
@@ -14,7 +13,8 @@ use Rattle.mf_convert.proofs.Making.{making_more, making_cut}
 use Rattle.mf_convert.proofs.converting.make_all.Goals as goal
 
 pub make_one-requires-clause-family : goal.make_one-requires-clause-family
-make_one-requires-clause-family g c = subst (λ (f : Facts). IsOfFamily c.args.family.now.shape c.args.family.now.points f.book)
+make_one-requires-clause-family g c = subst
+    (λ (f : Facts). IsOfFamily c.args.family.now.shape c.args.family.now.points f.book)
     (sym (facts_stay c.loop-i.invariant.making.completes.does)) c.requires.family
 
 pub make_one-requires-clause-converter : goal.make_one-requires-clause-converter
@@ -42,7 +42,8 @@ make_one-requires-clause-room g c =
 
 pub returns-in_err-make_one-clause-cuts : goal.returns-in_err-make_one-clause-cuts
 returns-in_err-make_one-clause-cuts g c = handed_on c.from_residual.result _ _ c.from_residual.ensures.1
-    (making_cut c.args.names.now c.args.states.now c.loop-i.i c.loop-i.invariant.making c.requires.long c.loop-i-test.true
+    (making_cut c.args.names.now c.args.states.now c.loop-i.i c.loop-i.invariant.making c.requires.long
+    c.loop-i-test.true
     c.in_err-make_one.ensures.cuts)
 
 pub loop-i-preserved : goal.loop-i-preserved
@@ -53,7 +54,8 @@ loop-i-preserved g c =
     let room = c.loop-i.invariant.room in
     let spare = c.in_ok-make_one.ensures.room in
     record {
-      making = making_more c.args.names.now c.args.states.now c.loop-i.i c.loop-i.invariant.making c.requires.names c.requires.long
+      making = making_more c.args.names.now c.args.states.now c.loop-i.i c.loop-i.invariant.making c.requires.names
+          c.requires.long
           c.loop-i-test.true (g.met.A.Access.kept c.args.access.now).file c.requires.converter.low
           (nth_held (c.args.course.now.from + 1) c.args.names.now c.loop-i.i (Data 0) {f = f}
           refl c.requires.names c.loop-i-test.true)

@@ -27,16 +27,19 @@ returns-in_err-go_on-clause-cuts g c =
 pub bring-requires-clause-converter : goal.bring-requires-clause-converter
 bring-requires-clause-converter g c = converter_stays c.in_ok-cell.ensures.completes.does
     (gets_ops (g.A.Access.actor c.args.access.now).facts
-    (sources (g.A.Access.actor c.args.access.now).facts.book c.args.course.now.from c.in-Parity.j c.in-Parity.p)) c.requires.converter
+    (sources (g.A.Access.actor c.args.access.now).facts.book c.args.course.now.from c.in-Parity.j c.in-Parity.p))
+    c.requires.converter
 
 pub bring-requires-clause-held : goal.bring-requires-clause-held
-bring-requires-clause-held g c = subst (λ (x : Name). holds (g.A.Access.actor c.merged.new.access).facts.book (c.args.course.now.from + 1) x ≡ true)
+bring-requires-clause-held g c = subst (λ (x : Name). holds (g.A.Access.actor c.merged.new.access).facts.book
+    (c.args.course.now.from + 1) x ≡ true)
     c.in-Parity.is
     (subst (λ (f : Facts). holds f.book (c.args.course.now.from + 1) c.args.name ≡ true)
     (sym (facts_stay c.in_ok-cell.ensures.completes.does)) c.requires.held)
 
 pub bring-requires-clause-found : goal.bring-requires-clause-found
-bring-requires-clause-found g c = subst (λ (x : Name). IsFound c.args.course.now.from (g.A.Access.actor c.merged.new.access) x c.args.state)
+bring-requires-clause-found g c = subst
+    (λ (x : Name). IsFound c.args.course.now.from (g.A.Access.actor c.merged.new.access) x c.args.state)
     c.in-Parity.is
     (found_after c.args.course.now.from
     (sources (g.A.Access.actor c.args.access.now).facts.book c.args.course.now.from c.in-Parity.j c.in-Parity.p)
@@ -45,7 +48,8 @@ bring-requires-clause-found g c = subst (λ (x : Name). IsFound c.args.course.no
 pub bring-requires-clause-cell : goal.bring-requires-clause-cell
 bring-requires-clause-cell g c =
     let f = (g.A.Access.actor c.args.access.now).facts in
-    let held = subst (λ (x : Name). holds f.book (c.args.course.now.from + 1) x ≡ true) c.in-Parity.is c.requires.held in
+    let held = subst (λ (x : Name). holds f.book (c.args.course.now.from + 1) x
+    ≡ true) c.in-Parity.is c.requires.held in
     let wide = next_parity f.book c.args.course.now.from c.in-Parity.field-0 c.in-Parity.j c.in-Parity.p held in
     c.in_ok-cell.ensures.cell
     ∙ (ap (λ w. cell_of f (name.Parity w c.in-Parity.j c.in-Parity.p)) (sym wide.0)

@@ -1,9 +1,6 @@
-use Rattle.std.proofs.Common.{◌≡◌, ◌+◌, true, List, length, take, get_or, ap, sym, ◌∙◌, subst, arith}
+use Rattle.std.proofs.Common.{◌+◌, length, get_or, ap, ◌∙◌, subst, arith}
 use Rattle.std.proofs.lemmas.List.{length_push}
-use Rattle.mf_places.specs.declared.Name.{Name}
 use Rattle.mf_places.specs.declared.Name.TheVariants.{Data}
-use Rattle.mf_places.specs.Facts.{BookFacts}
-use Rattle.mf_places.specs.Generations.{holds}
 use Rattle.mf_vault.specs.Facts.{Facts}
 use Rattle.mf_vault.proofs.Doing.{facts_stay}
 use Rattle.mf_convert.specs.Convert.{GoesOn}
@@ -18,7 +15,8 @@ probe_one-requires-clause-converter g c =
     converter_stays c.loop-name.invariant.completes.does (probes_ops _ _) c.requires.converter
 
 pub probe_one-requires-clause-held : goal.probe_one-requires-clause-held
-probe_one-requires-clause-held g c = nth_held (c.args.course.now.from + 1) c.args.names.now c.loop-name.name-index (Data 0)
+probe_one-requires-clause-held g c = nth_held (c.args.course.now.from + 1) c.args.names.now c.loop-name.name-index
+    (Data 0)
     (facts_stay c.loop-name.invariant.completes.does) c.requires.names c.loop-name-test.true
 
 pub returns-in_err-state-clause-cuts : goal.returns-in_err-state-clause-cuts
@@ -46,10 +44,13 @@ loop-name-preserved g c =
         does = probed_more names states n (Data 0) v.completes.does long k.goes c.append.ensures.items low;
         time = k.time;
       };
-      on = all_more (g.A.Access.actor c.args.access.now).facts.book c.args.course.now.from names states n (Data 0) c.in_ok-state.state v.on
-          (subst (λ (f : Facts). GoesOn f.book c.args.course.now.from (get_or names n (Data 0)) c.in_ok-state.state) (facts_stay v.completes.does) k.on)
+      on = all_more (g.A.Access.actor c.args.access.now).facts.book c.args.course.now.from names states n
+          (Data 0) c.in_ok-state.state v.on
+          (subst (λ (f : Facts). GoesOn f.book c.args.course.now.from (get_or names n (Data 0)) c.in_ok-state.state)
+          (facts_stay v.completes.does) k.on)
           c.append.ensures.items low;
-      found = found_more c.args.course.now.from names states n (Data 0) v.found long k.goes k.on c.append.ensures.items low;
+      found = found_more c.args.course.now.from names states n
+          (Data 0) v.found long k.goes k.on c.append.ensures.items low;
       long = ap length c.append.ensures.items ∙ (more ∙ ap (λ m. m + 1) long);
       capacity = omega arith;
       room = omega arith;

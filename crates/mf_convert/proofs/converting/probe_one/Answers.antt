@@ -23,7 +23,8 @@ returns-in-Unborn-clause-on g c = unborn_on c.requires.converter (g.met.A.Access
 pub returns-then-holds-clause-cuts : goal.returns-then-holds-clause-cuts
 returns-then-holds-clause-cuts g c = by_call (convert.lost_probed c.args.name _ _ c.in-Lost.line
     (subst (λ (b : BookFacts). holds b c.args.course.now.from c.args.name ≡ true)
-    (c.book.ensures ∙ ap (λ (f : Facts). f.book) (facts_kept c.in-Lost.ensures.goes)) (sym c.holds.ensures ∙ c.if-holds.true))) c.in-Lost.ensures.goes
+    (c.book.ensures ∙ ap (λ (f : Facts). f.book) (facts_kept c.in-Lost.ensures.goes)) (sym c.holds.ensures
+    ∙ c.if-holds.true))) c.in-Lost.ensures.goes
     (went _ (omega arith) c.in_ok-go_on.ensures.on c.in-Lost.ensures.goes).within
 
 pub returns-else-holds-clause-time : goal.returns-else-holds-clause-time

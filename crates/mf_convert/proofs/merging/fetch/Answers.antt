@@ -1,6 +1,6 @@
 use Rattle.std.proofs.Common.{arith}
 use Rattle.mf_convert.specs.Convert as convert
-use Rattle.mf_convert.proofs.Courses.{handed_on, stopped, by_call, went, get_few}
+use Rattle.mf_convert.proofs.Courses.{handed_on, stopped, by_call, went}
 use Rattle.mf_convert.proofs.Marks.{may_get}
 use Rattle.mf_convert.proofs.merging.fetch.Goals as goal
 
@@ -9,7 +9,8 @@ returns-in_err-go_on-clause-cuts g c = handed_on c.from_residual.result _ _ c.fr
     (stopped _ _ c.in_err-go_on.ensures.stopped)
 
 pub get-requires-clause-may : goal.get-requires-clause-may
-get-requires-clause-may g c = may_get c.args.name c.requires.converter (g.met.A.Access.kept c.args.access.now).file c.requires.held
+get-requires-clause-may g c = may_get c.args.name c.requires.converter
+    (g.met.A.Access.kept c.args.access.now).file c.requires.held
 
 pub returns-in-Lost-clause-cuts : goal.returns-in-Lost-clause-cuts
 returns-in-Lost-clause-cuts g c = by_call (convert.lost_got c.args.name _ _ c.in-Lost.line) c.in-Lost.ensures.goes

@@ -1,4 +1,4 @@
-use Rattle.std.proofs.Common.{◌≡◌, ◌<◌, ◌+◌, ◌*◌, ap, subst, arith, rules}
+use Rattle.std.proofs.Common.{◌≡◌, ◌+◌, ◌*◌, subst, arith, rules}
 use Rattle.mf_shape.specs.Chain.{Chain}
 use Rattle.mf_shape.specs.Stages.{width_at}
 use Rattle.mf_places.specs.Facts.{chunks_of}
@@ -11,7 +11,8 @@ returns c =
     let low = c.requires.next in
     let narrow = width_at c.args.book.now.shape.stages c.args.g in
     let wide = width_at c.args.book.now.shape.stages (c.args.g + 1) in
-    let whole = subst (λ (s : Chain). c.factor-factor.result * width_at s.stages c.args.g ≡ width_at s.stages (c.args.g + 1))
+    let whole = subst (λ (s : Chain). c.factor-factor.result * width_at s.stages c.args.g
+    ≡ width_at s.stages (c.args.g + 1))
     c.shape.ensures.value c.factor-factor.ensures.whole in
     let some = (chain.widths (c.args.g + 1) low).0 in
     let one = takes_one (chunks_of c.args.book.now) narrow wide c.factor-factor.result c.args.j whole

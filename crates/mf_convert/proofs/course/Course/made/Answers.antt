@@ -1,7 +1,6 @@
-use Rattle.std.proofs.Common.{◌≡◌, ℕ, ◌≤◌, ap, ◌∙◌, arith, length}
+use Rattle.std.proofs.Common.{ap, arith, length}
 use Rattle.mf_vault.specs.declared.io.Io.{Io}
 use Rattle.mf_vault.proofs.Counted.{io_low}
-use Rattle.mf_convert.specs.Converting.{since}
 use Rattle.mf_convert.proofs.course.Course.made.Goals as goal
 
 pub overflow_cast-result : goal.overflow_cast-result

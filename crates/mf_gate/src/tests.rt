@@ -1,4 +1,9 @@
-use crate::Gate;
+ghost use Rattle.std.specs.Prelude.{◌≡◌, ◌≤◌};
+ghost use Rattle.mf_machine.specs.Actors.{Free, IsFreeSlot, LacksRight};
+ghost use Rattle.mf_machine.specs.declared.answer.Slot.TheVariants.{Hold, Work};
+ghost use Rattle.mf_gate.specs.Passes.{IsAt, view};
+
+use crate::{Gate, Pass};
 use mf_machine::{Closed, Slot};
 use mf_shape::{Shape, Stage};
 use mf_vault::{Book, Losses, Note};
@@ -35,5 +40,44 @@ fn a_pinned_generation_is_not_closed(rt: HostRuntime) -> Result<(), Fail> {
     gate.join(&mut first, second);
     let (number, closed, names) = gate.rest(first);
     assert_eq!(rt; (number, closed[0], names.len()), (2, true, 0));
+    Ok(())
+}
+
+// Splits a pass of at least this share in two, and the new one again, until the share is 1; and
+// joins them all.
+fn split_and_join(gate: &Gate, pass: &mut Pass, share: u32)
+    requires at { IsAt pass.old gate.now }
+    requires share { share ≤ (view pass.old).share }
+    requires slots { IsFreeSlot Hold (view pass.old) × IsFreeSlot Work (view pass.old) }
+    requires right { LacksRight (view pass.old).build }
+    requires free { Free (view pass.old) }
+    ensures at { IsAt pass.new gate.now }
+    ensures share { (view pass.new).share ≡ (view pass.old).share }
+    ensures slots { IsFreeSlot Hold (view pass.new) × IsFreeSlot Work (view pass.new) }
+    ensures right { LacksRight (view pass.new).build }
+    ensures free { Free (view pass.new) }
+{
+    if share < 2 {
+        return;
+    }
+    let mut next = gate.split(pass);
+    split_and_join(gate, &mut next, share / 2);
+    gate.join(pass, next);
+}
+
+#[test]
+fn passes_split_eight_deep_and_joined_leave_the_state(rt: HostRuntime) -> Result<(), Fail> {
+    let alloc = rt.alloc();
+    let shape = Shape::new(alloc, &STAGES, 2)?;
+    let book = Book::new(alloc, &shape, &[1], 1, 0, 0)?;
+    let losses = Losses::new(alloc);
+    let bytes: Note<[u8; 0]> = Note::pick(&());
+    let made = Gate::new(alloc, &book, &bytes, &losses, 1, &[false], Vec::new(alloc));
+    let Ok((gate, mut pass)) = made else {
+        panic!(rt; "no memory")
+    };
+    split_and_join(&gate, &mut pass, 256);
+    let (number, closed, names) = gate.rest(pass);
+    assert_eq!(rt; (number, closed[0], names.len()), (1, false, 0));
     Ok(())
 }

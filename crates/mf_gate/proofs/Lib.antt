@@ -7,3 +7,4 @@ pub mod Leaving
 pub mod Opening
 pub mod Resting
 pub mod Tried
+pub mod OneByte

@@ -1,12 +1,15 @@
 ghost use Rattle.std.specs.Prelude.{◌≡◌, ◌≤◌};
 ghost use Rattle.mf_machine.specs.Actors.{Free, IsFreeSlot, LacksRight};
+ghost use Rattle.mf_machine.specs.File.{IsLoseLine};
+ghost use Rattle.mf_machine.specs.Steps.{MayTake};
 ghost use Rattle.mf_machine.specs.declared.answer.Slot.TheVariants.{Hold, Work};
-ghost use Rattle.mf_gate.specs.Passes.{IsAt, view};
+ghost use Rattle.mf_gate.specs.Passes.{IsAt, file, view};
 
-use crate::{Gate, Pass};
-use mf_machine::{Closed, Slot};
+use crate::{Gate, Pass, Taken};
+use mf_machine::{Closed, LoseStep, Slot, State};
 use mf_shape::{Shape, Stage};
-use mf_vault::{Book, Losses, Note};
+use mf_vault::{Book, Chunk, Losses, Note, Rest};
+use std::process::Abort;
 use std::test::Fail;
 
 const STAGES: [Stage; 1] = [Stage {
@@ -79,5 +82,50 @@ fn passes_split_eight_deep_and_joined_leave_the_state(rt: HostRuntime) -> Result
     split_and_join(&gate, &mut pass, 256);
     let (number, closed, names) = gate.rest(pass);
     assert_eq!(rt; (number, closed[0], names.len()), (1, false, 0));
+    Ok(())
+}
+
+// What the second actor is answered of name 0 while the first one has it Taken, and once it is lost.
+fn assert_met_again(rt: &impl Abort, gate: &Gate, first: &mut Pass, second: &mut Pass)
+    requires at { IsAt first.old gate.now × IsAt second.old gate.now }
+    requires first { MayTake (file first.old) 0 (view first.old) }
+    requires second { MayTake (file second.old) 0 (view second.old) }
+    requires line { IsLoseLine (file second.old) 0 7 }
+{
+    let Taken::Here(chunk) = gate.take(first, 0) else {
+        panic!(rt; "a name that is Here")
+    };
+    assert!(rt; matches!(gate.take(second, 0), Taken::Again));
+    assert_eq!(rt; gate.lose(second, 0, 7), LoseStep::Again);
+    assert_eq!(rt; gate.see(second, 0), State::Here);
+    gate.give(first, 0, chunk);
+    assert_eq!(rt; gate.lose(second, 0, 7), LoseStep::Done);
+    assert_eq!(rt; gate.lose(second, 0, 7), LoseStep::Nothing);
+    assert_eq!(rt; gate.see(second, 0), State::Lost(7));
+}
+
+#[test]
+fn a_taken_name_is_met_again(rt: HostRuntime) -> Result<(), Fail> {
+    let alloc = rt.alloc();
+    let shape = Shape::new(alloc, &STAGES, 2)?;
+    let book = Book::new(alloc, &shape, &[1], 1, 0, 1)?;
+    let mut losses = Losses::new(alloc);
+    losses.push(7, 0)?;
+    let bytes: Note<[u8; 0]> = Note::pick(&());
+    let data = Chunk::new(alloc, vec![in alloc; 97; 1]?)?;
+    let parity = data.share()?;
+    let mut names = Vec::new(alloc);
+    names.push(Rest::Here(data))?;
+    names.push(Rest::Here(parity))?;
+    let made = Gate::new(alloc, &book, &bytes, &losses, 1, &[false], names);
+    let Ok((gate, mut first)) = made else {
+        panic!(rt; "no memory")
+    };
+    let mut second = gate.split(&mut first);
+    assert_eq!(rt; gate.look(&mut first), 1);
+    assert!(rt; gate.pin(&mut first, Slot::Hold, 0));
+    assert_eq!(rt; gate.look(&mut second), 1);
+    assert!(rt; gate.pin(&mut second, Slot::Work, 0));
+    assert_met_again(&rt, &gate, &mut first, &mut second);
     Ok(())
 }

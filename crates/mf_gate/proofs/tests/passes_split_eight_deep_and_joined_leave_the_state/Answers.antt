@@ -1,5 +1,4 @@
-use Rattle.std.proofs.Common.{[], ◌∷◌, ◌+◌, false, length, refl, ap, ◌∙◌}
-use Rattle.mf_machine.specs.declared.view.View.{View}
+use Rattle.std.proofs.Common.{[], ◌∷◌, false, length, refl, ap, ◌∙◌}
 use Rattle.mf_places.specs.Facts.{BookFacts}
 use Rattle.mf_shape.specs.Chain.{Chain}
 use Rattle.mf_gate.specs.Resting.{about_of}

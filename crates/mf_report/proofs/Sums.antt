@@ -7,7 +7,8 @@ use Rattle.std.proofs.lemmas.List.Elements.{All-filter, All-map, All-weaker}
 use Rattle.mf_vault.specs.declared.io.Io.{Io}
 use Rattle.mf_vault.specs.Counting.{no_io, SumFits}
 use Rattle.mf_client.specs.declared.done.Done.{Done}
-use Rattle.mf_report.specs.Counts.{IsSmall, SumsFit, total_io}
+use Rattle.mf_client.specs.Runs.{IsSmall}
+use Rattle.mf_report.specs.Counts.{SumsFit, total_io}
 use Rattle.mf_report.specs.Commands.{converts}
 use Rattle.mf_report.specs.Report.{conversions}
 

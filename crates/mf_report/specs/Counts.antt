@@ -12,16 +12,6 @@ io_numbers io = io.pieces ∷ io.copies ∷ io.parities ∷ io.misses ∷ io.wri
 abbrev pub io_text : Io → List ℕ
 io_text io = codes "io" ++ numbers_text (io_numbers io)
 
--- each number is below 2 ^ 32
-pub record IsSmall (io : Io) : Type 0 where
-  pub pieces : io.pieces < 2 ^ 32
-  pub copies : io.copies < 2 ^ 32
-  pub parities : io.parities < 2 ^ 32
-  pub misses : io.misses < 2 ^ 32
-  pub writes : io.writes < 2 ^ 32
-  pub probes : io.probes < 2 ^ 32
-  pub drops : io.drops < 2 ^ 32
-
 -- the sums, kind by kind
 abbrev pub total_io : List Io → Io
 total_io ios = record {

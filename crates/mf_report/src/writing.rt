@@ -5,7 +5,8 @@ ghost use Rattle.std.specs.List.{All};
 ghost use Rattle.std.specs.Io.KnownBytes.{Appends};
 ghost use Rattle.mf_client.specs.declared.done.Done.{Done};
 ghost use Rattle.mf_report.specs.Lines.{ended};
-ghost use Rattle.mf_report.specs.Counts.{io_text, IsSmall};
+ghost use Rattle.mf_client.specs.Runs.{IsSmall};
+ghost use Rattle.mf_report.specs.Counts.{io_text};
 ghost use Rattle.mf_report.specs.Report.{took, conversions, report_text};
 ghost use Rattle.mf_report.specs.Writing.{Leaves};
 

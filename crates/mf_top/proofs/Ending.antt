@@ -1,49 +1,151 @@
 -- How a call ends, from what it read and wrote.
-use Rattle.std.proofs.Common.{◌≡◌, ℕ, ◌+◌, ◌<◌, ◌≤◌, ◌⊎◌, inl, inr, List, [], ◌++◌, length, take, Option, None, Some, IfSome, sym, ap, subst, refl, arith, length-append, codes, lit<}
-use Rattle.std.proofs.lemmas.Fmt.{decimal_digit}
-use Rattle.std.specs.Io.KnownBytes.{Keeps, Appends, Consumes}
+use Rattle.std.proofs.Common.{◌≡◌, ℕ, ◌+◌, ◌<◌, ◌≤◌, ◌⊎◌, inl, inr, List, [], ◌++◌, length, take, Option, None}
+use Rattle.std.proofs.Common.{Some, IfSome}
+use Rattle.std.proofs.Common.{◌≢◌, cond, if◌then◌else◌, sym, ap, ◌∙◌, subst, refl, arith, length-append, append-nil}
+use Rattle.std.specs.Io.KnownBytes.{Appends, Consumes, IsAtEnd}
 use Rattle.mf_io.specs.Faults.{HasRisen}
-use Rattle.mf_text.specs.Decimal.{decimal_text}
-use Rattle.mf_words.specs.Lines.{ended}
-use Rattle.mf_words.specs.Refusals.{script_refusal}
-use Rattle.mf_first.specs.FirstForm.{FirstScript, IsFirst}
-use Rattle.mf_top.specs.Answers.{IsAnswer}
-use Rattle.mf_top.specs.Ends.{Call, AsksTask, ReadsHeld, IsInput, WritesAnswer, Ends}
+use Rattle.std.specs.List.{list_any}
+use Rattle.std.proofs.lemmas.Bool.{cases_Bool, cond-true, cond-false}
+use Rattle.mf_lines.specs.declared.parts.Kind.TheVariants as kind
+use Rattle.mf_lines.specs.declared.parts.ScriptFault.{ScriptFault}
+use Rattle.mf_lines.specs.Meaning.{Script, main_of}
+use Rattle.mf_script.specs.Faults.{IsScriptFault}
+use Rattle.mf_script.specs.Scripts.{IsScript}
+use Rattle.mf_plain.specs.Resting.{Resting}
+use Rattle.mf_client.specs.declared.done.Done.{Done}
+use Rattle.mf_client.specs.Lacks.{lacks_memory}
+use Rattle.mf_report.specs.Report.{report_text}
+use Rattle.mf_report.specs.Verdicts.{accepted_text, refused_text, too_long}
+use Rattle.mf_report.specs.Writing.{Leaves}
+use Rattle.mf_report.specs.declared.writing.ReportFault.TheVariants as fault
+use Rattle.mf_top.specs.Answers.{task_words, IsRun, IsAnswer, reported, lacked, accepted, refused}
+use Rattle.mf_top.specs.declared.Task.{Task}
+use Rattle.mf_top.specs.declared.Task.TheVariants.{Run, Check}
+use Rattle.mf_top.specs.Writes.{Output, WritesWhole, WritesFront, Writes}
+use Rattle.mf_top.specs.Ends.{Call, Answers, Ends}
 use Rattle.mf_top.specs.declared.Status.{Status}
-use Rattle.mf_top.specs.declared.Status.TheVariants.{SinkFault}
+use Rattle.mf_top.specs.declared.Status.TheVariants as ended
+use Rattle.mf_top.specs.declared.Status.TheVariants.{Refused, Words, SourceFault, SinkFault, Memory}
 
 -- what writing an answer said
-abbrev pub Written : Call → Status → Status → List ℕ → Type 0
-Written c whole result bytes =
-    ((result ≡ whole) × Appends c.written c.written_now bytes × (c.sink_faults_now ≡ c.sink_faults))
-    ⊎ ((result ≡ SinkFault) × HasRisen c.sink_faults c.sink_faults_now × (n : ℕ) × (n ≤ length bytes) × Appends c.written c.written_now (take n bytes))
+abbrev pub Written : Output → Status → Status → List ℕ → Type 0
+Written o whole result bytes =
+    ((result ≡ whole) × Appends o.written o.written_now bytes × (o.faults_now ≡ o.faults))
+    ⊎ ((result ≡ SinkFault) × HasRisen o.faults o.faults_now × (n : ℕ) × (n ≤ length bytes)
+    × Appends o.written o.written_now (take n bytes))
 
 -- an answer that was to be written was written whole, or a front of it was
-pub ends_written : (c : Call) (whole result : Status) (status : ℕ) (text bytes : List ℕ) → IsInput c text → IsAnswer c.words text status bytes → ReadsHeld c
-    → AsksTask c.words ⊎ Keeps c.left c.left_now → (WritesAnswer c status → Ends c whole) → Written c whole result bytes → Ends c result
-ends_written c whole result status text bytes input answer reads side make (inl w) =
-    subst (Ends c) (sym w.0)
-    (make (record { text = text; bytes = bytes; input = input; answer = answer; written = w.1; reads = reads; writes = w.2 }))
-ends_written c whole result status text bytes input answer reads side make (inr w) =
-    subst (Ends c) (sym w.0)
-    (record { text = text; status = status; bytes = bytes; count = w.2; input = input; answer = answer; within = w.3; written = w.4; reads = reads; failed = w.1 }, side)
+pub written : (o : Output) (words : List (List ℕ)) (text bytes : List ℕ) (whole result : Status) (status : ℕ)
+    → IsAnswer words text status bytes → (WritesWhole o words text status → Writes o words text whole)
+    → Written o whole result bytes → Writes o words text result
+written o words text bytes whole result status answer make (inl w) =
+    subst (Writes o words text) (sym w.0) (make (record { bytes = bytes; answer = answer; written = w.1; held = w.2 }))
+written o words text bytes whole result status answer make (inr w) =
+    subst (Writes o words text) (sym w.0)
+    (record { status = status; bytes = bytes; count = w.2; answer = answer; within = w.3; written = w.4; failed = w.1 })
+
+-- a text that was answered
+pub answered : (c : Call) (status : Status) → Answers c status → Ends c status
+answered c ended.Done a = a
+answered c Refused a = a
+answered c Words a = a
+answered c SourceFault a = absurd a.writes
+answered c SinkFault a = a
+answered c Memory a = inl a
 
 -- some text is what a source has left, as far as it tells
 pub some_input : (left : Option (List ℕ)) → (text : List ℕ) × IfSome left (λ bytes. text ≡ bytes)
 some_input None = ([], tt)
 some_input (Some bytes) = (bytes, refl)
 
+-- a text that was read to its end is what the source had left
+pub whole_input : (left now : Option (List ℕ)) (text : List ℕ) → Consumes left now text → IsAtEnd now
+    → IfSome left (λ bytes. text ≡ bytes)
+whole_input None now text e end = tt
+whole_input (Some x) None text e end = absurd e
+whole_input (Some x) (Some y) text e end = sym (e ∙ ap (λ l. text ++ l) end ∙ append-nil text)
+
 -- a text of which more than the limit was read is longer than the limit
-pub long_input : (left now : Option (List ℕ)) (limit : ℕ) (read : List ℕ) → Consumes left now read → length read ≡ limit + 1
-    → (text : List ℕ) × IfSome left (λ bytes. text ≡ bytes) × (limit < length text)
+pub long_input : (left now : Option (List ℕ)) (limit : ℕ) (read : List ℕ) → Consumes left now read
+    → length read ≡ limit + 1 → (text : List ℕ) × IfSome left (λ bytes. text ≡ bytes) × (limit < length text)
 long_input None now limit read e n = (read, tt, omega arith)
 long_input (Some x) None limit read e n = absurd e
 long_input (Some x) (Some y) limit read e n = (x, refl, omega (arith, ap length e, length-append read y))
 
-pub long_is_no_script : (text : List ℕ) → 1048576 < length text → (s : FirstScript) → IsFirst text s → ⊥
-long_is_no_script text long s first = omega (arith, first.size)
+-- ---- the report of a run
 
--- the lines that refuse a text as a whole
-pub whole_refusal : (fault : List ℕ) → script_refusal 0 fault ≡ ended (codes "refused line 0 " ++ fault)
-unfolding decimal_text
-whole_refusal fault = ap (λ d. ended (codes "refused line " ++ d ++ codes " " ++ fault)) (decimal_digit 0 (lit< tt))
+report_answer : (text : List ℕ) (s : Script) (done : List Done) (files : List Resting) → IsRun text s done files
+    → (status : ℕ) × IsAnswer (task_words Run) text status (report_text s done)
+report_answer text s done files run =
+    elim (cases_Bool (list_any lacks_memory done)) [
+      | inl lacks ↦ (5, lacked s done files run lacks)
+      | inr fine ↦ (0, reported s done files run fine)
+    ]
+
+-- it was written whole
+pub ran : (o : Output) (text : List ℕ) (s : Script) (done mine yours : List Done) (files : List Resting)
+    (status : Status)
+    → IsRun text s done files → mine ≡ done → yours ≡ done → Appends o.written o.written_now (report_text s mine)
+    → o.faults_now ≡ o.faults
+    → status ≡ (if list_any lacks_memory yours then Memory else ended.Done) → Writes o (task_words Run) text status
+ran o text s done mine yours files status run first second appended held is =
+    let app : Appends o.written o.written_now (report_text s done) =
+    subst (λ d. Appends o.written o.written_now (report_text s d)) first appended in
+    elim (cases_Bool (list_any lacks_memory done)) [
+      | inl lacks ↦
+          let at : status ≡ Memory =
+          is ∙ ap (λ d. cond (list_any lacks_memory d) Memory ended.Done) second ∙ cond-true _ _ _ lacks in
+          subst (Writes o (task_words Run) text) (sym at) (inr (record {
+            bytes = report_text s done;
+            answer = lacked s done files run lacks;
+            written = app;
+            held = held;
+          }))
+      | inr fine ↦
+          let at : status ≡ ended.Done =
+          is ∙ ap (λ d. cond (list_any lacks_memory d) Memory ended.Done) second ∙ cond-false _ _ _ fine in
+          subst (Writes o (task_words Run) text) (sym at) (record {
+            bytes = report_text s done;
+            answer = reported s done files run fine;
+            written = app;
+            held = held;
+          })
+    ]
+
+-- a write of it failed
+pub ran_front : (o : Output) (text : List ℕ) (s : Script) (done mine : List Done) (files : List Resting)
+    → IsRun text s done files → mine ≡ done
+    → Leaves fault.Sink (report_text s mine) o.written o.written_now o.faults o.faults_now
+    → WritesFront o (task_words Run) text
+ran_front o text s done mine files run first left =
+    let w = subst (λ d. Leaves fault.Sink (report_text s d) o.written o.written_now o.faults o.faults_now) first left in
+    let answer = report_answer text s done files run in
+    record {
+      status = answer.0;
+      bytes = report_text s done;
+      count = w.1;
+      answer = answer.1;
+      within = w.2;
+      written = w.3;
+      failed = w.0;
+    }
+
+-- ---- the answers to a check, and to a text that is no script
+
+pub accepted_read : (text answer : List ℕ) (s : Script) → IsScript text s → answer ≡ accepted_text (main_of s).stages
+    → IsAnswer (task_words Check) text 0 answer
+accepted_read text answer s is e = subst (IsAnswer (task_words Check) text 0) (sym e) (accepted s is)
+
+pub refused_read : (task : Task) (text answer : List ℕ) (f : ScriptFault) → IsScriptFault text f
+    → f.kind ≢ kind.Memory → answer ≡ refused_text f → IsAnswer (task_words task) text 1 answer
+refused_read task text answer f has other e =
+    subst (IsAnswer (task_words task) text 1) (sym e)
+    (refused task f (record { fault_of_text = has; not_memory = other }))
+
+pub long_refused : (task : Task) (text : List ℕ) → 1048576 < length text
+    → IsAnswer (task_words task) text 1 (refused_text too_long)
+long_refused task text long =
+    refused task too_long (record {
+      fault_of_text = inr (inl (inl (record { long = long; number = refl; is = refl })));
+      not_memory = λ e. cc;
+    })

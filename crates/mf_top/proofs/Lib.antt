@@ -1,3 +1,4 @@
-mod Reports
+mod Limits
+mod Running
 mod Ending
-mod Checking
+mod Once

@@ -1,16 +1,17 @@
 -- What the program answers to its words, and to the text that its source has left.
-use Rattle.std.specs.Prelude.{◌≡◌, ◌≢◌, ℕ, List, [], ◌∷◌, codes}
-use Rattle.mf_words.specs.Report.{report_text}
-use Rattle.mf_words.specs.Refusals.{script_refusal, words_refusal}
+use Rattle.std.specs.Prelude.{◌≡◌, ◌≢◌, ℕ, true, false, List, [], ◌∷◌, codes}
+use Rattle.std.specs.List.{list_any}
 use Rattle.mf_lines.specs.declared.parts.Kind.TheVariants as kind
 use Rattle.mf_lines.specs.declared.parts.ScriptFault.{ScriptFault}
-use Rattle.mf_first.specs.FirstForm.{FirstScript, IsFirst}
 use Rattle.mf_lines.specs.Meaning.{Script, main_of}
 use Rattle.mf_script.specs.Faults.{IsScriptFault}
 use Rattle.mf_script.specs.Scripts.{IsScript}
-use Rattle.mf_verdict.specs.Texts.{kind_text}
-use Rattle.mf_verdict.specs.Verdicts.{accepted_text, refused_text}
-use Rattle.mf_top.specs.FirstRun.{dones_of}
+use Rattle.mf_plain.specs.Resting.{Resting}
+use Rattle.mf_client.specs.declared.done.Done.{Done}
+use Rattle.mf_client.specs.Lacks.{lacks_memory}
+use Rattle.mf_report.specs.Report.{report_text}
+use Rattle.mf_report.specs.Verdicts.{accepted_text, refused_text, words_refusal}
+use Rattle.mf_top.specs.PlainRun.{IsPlainRun}
 use Rattle.mf_top.specs.declared.Task.{Task}
 use Rattle.mf_top.specs.declared.Task.TheVariants.{Run, Check}
 
@@ -18,6 +19,10 @@ use Rattle.mf_top.specs.declared.Task.TheVariants.{Run, Check}
 abbrev pub task_words : Task → List (List ℕ)
 task_words Run = codes "run" ∷ []
 task_words Check = codes "check" ∷ []
+
+-- the words ask for a task, and so for a text
+abbrev pub AsksTask : List (List ℕ) → Type 0
+AsksTask words = (task : Task) × (words ≡ task_words task)
 
 -- the words ask for no task
 abbrev pub AsksNothing : List (List ℕ) → Type 0
@@ -28,16 +33,21 @@ pub record IsRefused (text : List ℕ) (fault : ScriptFault) : Type 0 where
   pub fault_of_text : IsScriptFault text fault
   pub not_memory : fault.kind ≢ kind.Memory
 
--- The status of an answer, and its bytes. With `run` a script of the first form has the report of its run, and any
--- other text the line that refuses it. With `check` a script has the line of its family, and any other text the line of its
--- fault. Other words have the line that refuses them, whatever the text is.
+-- The text is this script, its phases did these commands, and these files are left.
+pub record IsRun (text : List ℕ) (s : Script) (done : List Done) (files : List Resting) : Type 0 where
+  pub script : IsScript text s
+  pub run : IsPlainRun s done files
+
+-- The status of an answer, and its bytes. With `run` a script has the report of its run: with status 0 where no command
+-- lacked memory, and with 5 where one did. With `check` it has the line of its family. Any other text has the line of
+-- its fault. Other words have the line that refuses them, whatever the text is.
 pub data IsAnswer : List (List ℕ) → List ℕ → ℕ → List ℕ → Type 0 where
-  reported : {text : List ℕ} (s : FirstScript) → IsFirst text s
-      → IsAnswer (task_words Run) text 0 (report_text (dones_of s))
-  no_script : {text : List ℕ} → ((s : FirstScript) → IsFirst text s → ⊥)
-      → IsAnswer (task_words Run) text 1 (script_refusal 0 (kind_text kind.Unknown))
+  reported : {text : List ℕ} (s : Script) (done : List Done) (files : List Resting) → IsRun text s done files
+      → list_any lacks_memory done ≡ false → IsAnswer (task_words Run) text 0 (report_text s done)
+  lacked : {text : List ℕ} (s : Script) (done : List Done) (files : List Resting) → IsRun text s done files
+      → list_any lacks_memory done ≡ true → IsAnswer (task_words Run) text 5 (report_text s done)
   accepted : {text : List ℕ} (s : Script) → IsScript text s
       → IsAnswer (task_words Check) text 0 (accepted_text (main_of s).stages)
-  refused : {text : List ℕ} (fault : ScriptFault) → IsRefused text fault
-      → IsAnswer (task_words Check) text 1 (refused_text fault)
+  refused : {text : List ℕ} (task : Task) (fault : ScriptFault) → IsRefused text fault
+      → IsAnswer (task_words task) text 1 (refused_text fault)
   no_words : {words : List (List ℕ)} {text : List ℕ} → AsksNothing words → IsAnswer words text 2 words_refusal

@@ -1,78 +1,60 @@
 -- How a call of the program ends, as its source and its sink tell it.
-use Rattle.std.specs.Prelude.{◌≡◌, ℕ, ◌≤◌, ◌⊎◌, List, Option, IfSome, length, take}
-use Rattle.std.specs.Io.KnownBytes.{Keeps, Appends, IsAtEnd}
+use Rattle.std.specs.Prelude.{◌≡◌, ℕ, ◌<◌, ◌≤◌, ◌⊎◌, List, Option, IfSome, length}
+use Rattle.std.specs.Io.KnownBytes.{Keeps, IsAtEnd}
 use Rattle.mf_io.specs.Faults.{HasRisen}
-use Rattle.mf_top.specs.Answers.{task_words, IsAnswer}
-use Rattle.mf_top.specs.declared.Task.{Task}
+use Rattle.mf_io.specs.ReadAll.{TookSome}
+use Rattle.mf_top.specs.Answers.{AsksTask, AsksNothing}
+use Rattle.mf_top.specs.Writes.{Output, Writes, WritesNothing}
 use Rattle.mf_top.specs.declared.Status.{Status}
 use Rattle.mf_top.specs.declared.Status.TheVariants.{Done, Refused, Words, SourceFault, SinkFault, Memory}
 
--- The words of a call; what its source had left, and what it has left now; what its sink held, and what it
--- holds now; and how many reads and writes had failed, and have failed now.
+-- The words of a call; what its source had left, and what it has left now; how many reads had failed, and have failed
+-- now; and what became of its sink.
 pub record Call : Type 0 where
   pub words : List (List ℕ)
   pub left : Option (List ℕ)
   pub left_now : Option (List ℕ)
-  pub written : Option (List ℕ)
-  pub written_now : Option (List ℕ)
-  pub source_faults : ℕ
-  pub source_faults_now : ℕ
-  pub sink_faults : ℕ
-  pub sink_faults_now : ℕ
-
--- the words ask for a task, and so for a text
-abbrev pub AsksTask : List (List ℕ) → Type 0
-AsksTask words = (task : Task) × (words ≡ task_words task)
+  pub faults : ℕ
+  pub faults_now : ℕ
+  pub output : Output
 
 -- no read failed
 abbrev pub ReadsHeld : Call → Type 0
-ReadsHeld c = c.source_faults_now ≡ c.source_faults
+ReadsHeld c = c.faults_now ≡ c.faults
 
--- no write failed
-abbrev pub WritesHeld : Call → Type 0
-WritesHeld c = c.sink_faults_now ≡ c.sink_faults
-
--- a text that the source had left, where it tells that
+-- a text is what the source had left, where it tells that
 abbrev pub IsInput : Call → List ℕ → Type 0
 IsInput c text = IfSome c.left (λ bytes. text ≡ bytes)
 
--- the answer of this status was written whole, and nothing failed
-pub record WritesAnswer (c : Call) (status : ℕ) : Type 0 where
-  pub text : List ℕ
-  pub bytes : List ℕ
-  pub input : IsInput c text
-  pub answer : IsAnswer c.words text status bytes
-  pub written : Appends c.written c.written_now bytes
-  pub reads : ReadsHeld c
-  pub writes : WritesHeld c
+-- What was taken of this text: nothing, where the words ask for no task; else all of it, where it isn't longer than a
+-- script may be; and of a longer one just one byte more than that.
+pub data IsTaken (c : Call) (text : List ℕ) : Type 0 where
+  unread : AsksNothing c.words → Keeps c.left c.left_now → IsTaken c text
+  whole : AsksTask c.words → length text ≤ 1048576 → IsAtEnd c.left_now → IsTaken c text
+  too_long : AsksTask c.words → 1048576 < length text → TookSome c.left c.left_now (λ n. n ≡ 1048577) → IsTaken c text
 
--- a front of the answer was written, and then a write failed
-pub record WritesFront (c : Call) : Type 0 where
+-- the text that the source had left was answered with this status
+pub record Answers (c : Call) (status : Status) : Type 0 where
   pub text : List ℕ
-  pub status : ℕ
-  pub bytes : List ℕ
-  pub count : ℕ
   pub input : IsInput c text
-  pub answer : IsAnswer c.words text status bytes
-  pub within : count ≤ length bytes
-  pub written : Appends c.written c.written_now (take count bytes)
+  pub taken : IsTaken c text
   pub reads : ReadsHeld c
-  pub failed : HasRisen c.sink_faults c.sink_faults_now
+  pub writes : Writes c.output c.words text status
 
--- the words asked for a task, and nothing was written
-pub record WritesNothing (c : Call) : Type 0 where
+-- the text wasn't read to its end, and nothing was written
+pub record AnswersNothing (c : Call) : Type 0 where
   pub words : AsksTask c.words
-  pub written : Keeps c.written c.written_now
-  pub writes : WritesHeld c
+  pub taken : TookSome c.left c.left_now (λ n. n ≤ 1048576)
+  pub writes : WritesNothing c.output
 
--- How a call ends with each status. Other words than these are refused with nothing read.
+-- how a call ends with each status
 abbrev pub Ends : Call → Status → Type 0
-Ends c Done = WritesAnswer c 0 × IsAtEnd c.left_now
-Ends c Refused = WritesAnswer c 1
-Ends c Words = WritesAnswer c 2 × Keeps c.left c.left_now
-Ends c SourceFault = WritesNothing c × HasRisen c.source_faults c.source_faults_now
-Ends c SinkFault = WritesFront c × (AsksTask c.words ⊎ Keeps c.left c.left_now)
-Ends c Memory = WritesNothing c × ReadsHeld c
+Ends c Done = Answers c Done
+Ends c Refused = Answers c Refused
+Ends c Words = Answers c Words
+Ends c SourceFault = AnswersNothing c × HasRisen c.faults c.faults_now
+Ends c SinkFault = Answers c SinkFault
+Ends c Memory = Answers c Memory ⊎ (AnswersNothing c × ReadsHeld c)
 
 -- the number of each status
 abbrev pub number_of : Status → ℕ

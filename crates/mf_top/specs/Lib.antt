@@ -1,4 +1,8 @@
-pub mod FirstRun
+-- What the public calls promise.
+pub mod PlainRun
 pub mod Answers
+pub mod Writes
 pub mod Ends
-pub mod Given
+pub mod Laws
+-- Words of private functions, which no promise has.
+pub mod Between

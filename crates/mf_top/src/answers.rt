@@ -1,75 +1,144 @@
 //! What the program answers to a text.
 
-ghost use Rattle.std.specs.Prelude.{◌≡◌, ◌<◌, ◌↔◌, ℕ, List, length, IfOk, IsTrue};
-ghost use Rattle.mf_top.specs.Answers.{task_words, IsAnswer};
-ghost use Rattle.mf_top.specs.Given.{Gives};
+ghost use Rattle.std.specs.Prelude.{◌≡◌, List, ℕ, IsTrue, ◌↔◌, if◌then◌else◌};
+ghost use Rattle.std.specs.List.{list_any};
+ghost use Rattle.mf_script.specs.Faults.{IsScriptFault};
+ghost use Rattle.mf_script.specs.Scripts.{IsScript};
+ghost use Rattle.mf_client.specs.Lacks.{lacks_memory};
+ghost use Rattle.mf_top.specs.Answers.{task_words};
+ghost use Rattle.mf_top.specs.Between.{IsOfText};
+ghost use Rattle.mf_top.specs.Writes.{Writes};
 
-use crate::Task;
-use crate::report::report_of;
-use mf_first::{FirstFault, read_first};
-use mf_script::{Kind, read_script};
-use mf_verdict::{accepted_line, refused_line};
-use std::alloc::{AllocError, Global};
+use crate::phases::run;
+use crate::writing::write_answer;
+use crate::{Status, Task};
+use mf_client::{Done, Turnstile};
+use mf_io::Sink;
+use mf_report::{ReportFault, accepted_line, refused_line, report};
+use mf_script::{Kind, Script, ScriptFault, read_script};
+use std::alloc::Global;
 
-/// What is to be written.
-#[derive(Debug, Drop)]
-pub enum Answer {
-    /// The report of the script's run, or the line of its family.
-    Done(Vec<u8>),
-    /// The line that refuses the text.
-    Refused(Vec<u8>),
-}
-
-/// The line that refuses a text which is no script of the one form that is run.
-const NO_SCRIPT: &[u8] = b"refused line 0 unknown\n";
-
-/// The line that refuses a text with too many bytes.
-const TOO_LONG: &[u8] = b"refused line 0 limit text\n";
-
-/// The line that refuses a text of more than 1,048,576 bytes.
-pub fn long_answer(task: Task) -> &'static [u8]
-    ensures { (text : List ℕ) → 1048576 < length text
-        → IsAnswer (task_words task) text 1 result.now }
-{
-    match task {
-        Task::Run => NO_SCRIPT,
-        Task::Check => TOO_LONG,
-    }
-}
-
-/// What is answered to a text.
-pub fn answer_of(alloc: Global, task: Task, text: &[u8]) -> Result<Answer, AllocError>
-    ensures { IfOk result (λ answer. Gives (task_words task) text.now answer) }
-{
-    match task {
-        Task::Run => run_answer(alloc, text),
-        Task::Check => check_answer(alloc, text),
-    }
-}
-
-// The report of the script's run, or the line that refuses the text.
-fn run_answer(alloc: Global, text: &[u8]) -> Result<Answer, AllocError>
-    ensures { IfOk result (λ answer. Gives (task_words Task.Run) text.now answer) }
-{
-    match read_first(alloc, text) {
-        Ok(script) => Ok(Answer::Done(report_of(alloc, &script)?)),
-        Err(FirstFault::Form) => Ok(Answer::Refused(Vec::from_slice(alloc, NO_SCRIPT)?)),
-        Err(FirstFault::Memory) => Err(AllocError),
-    }
-}
-
-// The line of the script's family, or the line that refuses the text.
-fn check_answer(alloc: Global, text: &[u8]) -> Result<Answer, AllocError>
-    ensures { IfOk result (λ answer. Gives (task_words Task.Check) text.now answer) }
+/// Does the task with the script that the text is, and writes the answer, or writes what is wrong
+/// with the text. Says with which status the call ends.
+pub fn answer<K: Sink, T: Turnstile>(
+    alloc: Global,
+    task: Task,
+    text: &[u8],
+    sink: &mut K,
+    turnstile: &T,
+) -> Status
+    ensures { Writes (record {
+      written = K.written sink.old;
+      written_now = K.written sink.new;
+      faults = K.faults sink.old;
+      faults_now = K.faults sink.new;
+    }) (task_words task) text.now result }
 {
     match read_script(alloc, text) {
-        Ok(script) => Ok(Answer::Done(accepted_line(alloc, script.family().shape())?)),
-        Err(fault) => {
-            if is_memory(&fault.kind) {
-                return Err(AllocError);
-            }
-            Ok(Answer::Refused(refused_line(alloc, &fault)?))
-        }
+        Ok(script) => answer_script(alloc, task, &script, sink, turnstile),
+        Err(fault) => answer_fault(alloc, &fault, sink),
+    }
+}
+
+// Does the task with a script, and writes the answer.
+fn answer_script<K: Sink, T: Turnstile>(
+    alloc: Global,
+    task: Task,
+    script: &Script,
+    sink: &mut K,
+    turnstile: &T,
+) -> Status
+    requires { IsOfText script.now }
+    ensures { (text : List ℕ) → IsScript text script.now
+        → Writes (record {
+          written = K.written sink.old;
+          written_now = K.written sink.new;
+          faults = K.faults sink.old;
+          faults_now = K.faults sink.new;
+        }) (task_words task) text result }
+{
+    match task {
+        Task::Run => answer_run(alloc, script, sink, turnstile),
+        Task::Check => answer_check(alloc, script, sink),
+    }
+}
+
+// Runs the script, and writes the report.
+fn answer_run<K: Sink, T: Turnstile>(
+    alloc: Global,
+    script: &Script,
+    sink: &mut K,
+    turnstile: &T,
+) -> Status
+    requires { IsOfText script.now }
+    ensures { (text : List ℕ) → IsScript text script.now
+        → Writes (record {
+          written = K.written sink.old;
+          written_now = K.written sink.new;
+          faults = K.faults sink.old;
+          faults_now = K.faults sink.new;
+        }) (task_words Task.Run) text result }
+{
+    let Ok(ran) = run(alloc, script, turnstile) else {
+        return Status::Memory;
+    };
+    match report(alloc, sink, script, &ran.done) {
+        Ok(()) => status_of(&ran.done),
+        Err(ReportFault::Sink) => Status::SinkFault,
+        Err(ReportFault::Memory) => Status::Memory,
+    }
+}
+
+// The status of a run whose report was written whole.
+fn status_of(done: &[Done]) -> Status
+    ensures { result ≡ (if list_any lacks_memory done.now then Status.Memory else Status.Done) }
+{
+    if lack_memory(done) {
+        Status::Memory
+    } else {
+        Status::Done
+    }
+}
+
+// Whether memory ran out in one of these commands.
+fn lack_memory(done: &[Done]) -> bool
+    ensures { result ≡ list_any lacks_memory done.now }
+{
+    done.iter().any(|command| command.lacks_memory())
+}
+
+// Writes the line of the script's family.
+fn answer_check<K: Sink>(alloc: Global, script: &Script, sink: &mut K) -> Status
+    ensures { (text : List ℕ) → IsScript text script.now
+        → Writes (record {
+          written = K.written sink.old;
+          written_now = K.written sink.new;
+          faults = K.faults sink.old;
+          faults_now = K.faults sink.new;
+        }) (task_words Task.Check) text result }
+{
+    match accepted_line(alloc, script.family().shape()) {
+        Ok(line) => write_answer(sink, &line, Status::Done),
+        Err(_) => Status::Memory,
+    }
+}
+
+// Writes what is wrong with a text.
+fn answer_fault<K: Sink>(alloc: Global, fault: &ScriptFault, sink: &mut K) -> Status
+    ensures { (task : Task) (text : List ℕ) → IsScriptFault text fault.now
+        → Writes (record {
+          written = K.written sink.old;
+          written_now = K.written sink.new;
+          faults = K.faults sink.old;
+          faults_now = K.faults sink.new;
+        }) (task_words task) text result }
+{
+    if is_memory(&fault.kind) {
+        return Status::Memory;
+    }
+    match refused_line(alloc, fault) {
+        Ok(line) => write_answer(sink, &line, Status::Refused),
+        Err(_) => Status::Memory,
     }
 }
 

@@ -1,19 +1,23 @@
 //! The top call: what the program reads, answers and ends with.
 #![tactic(auto)]
 
-ghost use Rattle.std.specs.Prelude.{◌≡◌, ◌≤◌, ◌⊎◌, ◌∷◌, [], ℕ, length, take, map, MatchOption};
+ghost use Rattle.std.specs.Prelude.{◌≡◌, ◌∷◌, [], ℕ, map, MatchOption};
 ghost use Rattle.std.specs.String.{string_bytes};
-ghost use Rattle.std.specs.Io.KnownBytes.{Appends};
-ghost use Rattle.mf_io.specs.Faults.{HasRisen};
 ghost use Rattle.mf_top.specs.Answers.{task_words, AsksNothing};
 ghost use Rattle.mf_top.specs.Ends.{Ends, number_of};
 
 mod answers;
-mod report;
+mod laws;
+mod phases;
+mod writing;
 
-use answers::{Answer, answer_of, long_answer};
-use mf_io::{ReadAll, Sink, Source, read_all, write_all};
+use answers::answer;
+pub use laws::{ends_well, one_answer};
+use mf_client::{Free, Turnstile};
+use mf_io::{ReadAll, Sink, Source, read_all};
+use mf_report::{too_long_line, words_line};
 use std::alloc::Global;
+use writing::write_answer;
 
 /// The greatest number of bytes of a script.
 const TEXT_LIMIT: usize = 1_048_576;
@@ -44,79 +48,91 @@ enum Status {
     Memory,
 }
 
-/// Does what the words ask for, which stand after the program's name, and answers the program's status. With the one
-/// word `run` it reads a script from the source, runs it, and writes the report to the sink. With the one word `check`
-/// it does as `morph_check`. The status is:
+/// Does what the words ask for, which stand after the program's name, and answers the program's
+/// status. With the one word `run` it reads a script from the source, runs its phases one after the
+/// other over files that aren't created yet, and writes the report to the sink. With the one word
+/// `check` it does as `morph_check`. The turnstile is told of each client before each of its
+/// commands. The status is:
 ///
-/// - 0: the script was read to its end, and its report or line was written whole;
+/// - 0: the script was read to its end, and its report or line was written whole; no command lacked
+///   memory;
 /// - 1: the text is no script, and the line that says so was written;
 /// - 2: the words are others, nothing was read, and the line that says so was written;
 /// - 3: a read failed, and nothing was written;
 /// - 4: a write failed, and a front of the report or line was written;
-/// - 5: memory ran out, and nothing was written.
-pub fn morph<R, S: Source, K: Sink>(
+/// - 5: memory ran out, and nothing was written; or a command lacked memory, and the report that
+///   says so was written whole.
+pub fn morph<R, S: Source, K: Sink, T: Turnstile>(
     _rt: &R,
     alloc: Global,
     words: &[String],
     source: &mut S,
     sink: &mut K,
+    turnstile: &T,
 ) -> u8
     ensures { (status : Status) × (result ≡ number_of status) × Ends (record {
       words = map string_bytes words.now;
       left = S.left source.old;
       left_now = S.left source.new;
-      written = K.written sink.old;
-      written_now = K.written sink.new;
-      source_faults = S.faults source.old;
-      source_faults_now = S.faults source.new;
-      sink_faults = K.faults sink.old;
-      sink_faults_now = K.faults sink.new;
+      faults = S.faults source.old;
+      faults_now = S.faults source.new;
+      output = record {
+        written = K.written sink.old;
+        written_now = K.written sink.new;
+        faults = K.faults sink.old;
+        faults_now = K.faults sink.new;
+      };
     }) status }
 {
-    end_of(alloc, words, source, sink) as u8
+    end_of(alloc, words, source, sink, turnstile) as u8
 }
 
-/// Tries the family of the script that the source has left. It writes one line: `family ok stages Q tolerance T ..`
-/// with the tolerance of each stage, or `refused line L ` and what is wrong there. It answers the status of `morph`
-/// with the word `check`: 0, 1, 3, 4 or 5.
+/// Tries the family of the script that the source has left. It writes one line: `family ok stages
+/// Q tolerance T ..` with the tolerance of each stage, or `refused line L ` and what is wrong there.
+/// It answers the status of `morph` with the word `check`: 0, 1, 3, 4 or 5.
 pub fn morph_check<S: Source, K: Sink>(alloc: Global, source: &mut S, sink: &mut K) -> u8
     ensures { (status : Status) × (result ≡ number_of status) × Ends (record {
       words = task_words Task.Check;
       left = S.left source.old;
       left_now = S.left source.new;
-      written = K.written sink.old;
-      written_now = K.written sink.new;
-      source_faults = S.faults source.old;
-      source_faults_now = S.faults source.new;
-      sink_faults = K.faults sink.old;
-      sink_faults_now = K.faults sink.new;
+      faults = S.faults source.old;
+      faults_now = S.faults source.new;
+      output = record {
+        written = K.written sink.old;
+        written_now = K.written sink.new;
+        faults = K.faults sink.old;
+        faults_now = K.faults sink.new;
+      };
     }) status }
 {
-    end_of_task(alloc, Task::Check, source, sink) as u8
+    end_of_task(alloc, Task::Check, source, sink, &Free) as u8
 }
 
 // How a call with these words ends.
-fn end_of<S: Source, K: Sink>(
+fn end_of<S: Source, K: Sink, T: Turnstile>(
     alloc: Global,
     words: &[String],
     source: &mut S,
     sink: &mut K,
+    turnstile: &T,
 ) -> Status
     ensures { Ends (record {
       words = map string_bytes words.now;
       left = S.left source.old;
       left_now = S.left source.new;
-      written = K.written sink.old;
-      written_now = K.written sink.new;
-      source_faults = S.faults source.old;
-      source_faults_now = S.faults source.new;
-      sink_faults = K.faults sink.old;
-      sink_faults_now = K.faults sink.new;
+      faults = S.faults source.old;
+      faults_now = S.faults source.new;
+      output = record {
+        written = K.written sink.old;
+        written_now = K.written sink.new;
+        faults = K.faults sink.old;
+        faults_now = K.faults sink.new;
+      };
     }) result }
 {
     match task_of(words) {
-        Some(task) => end_of_task(alloc, task, source, sink),
-        None => write_answer(sink, b"refused words\n", Status::Words),
+        Some(task) => end_of_task(alloc, task, source, sink, turnstile),
+        None => write_answer(sink, words_line(), Status::Words),
     }
 }
 
@@ -146,48 +162,32 @@ fn task_named(word: &str) -> Option<Task>
 }
 
 // How a task ends.
-fn end_of_task<S: Source, K: Sink>(
+fn end_of_task<S: Source, K: Sink, T: Turnstile>(
     alloc: Global,
     task: Task,
     source: &mut S,
     sink: &mut K,
+    turnstile: &T,
 ) -> Status
     ensures { Ends (record {
       words = task_words task;
       left = S.left source.old;
       left_now = S.left source.new;
-      written = K.written sink.old;
-      written_now = K.written sink.new;
-      source_faults = S.faults source.old;
-      source_faults_now = S.faults source.new;
-      sink_faults = K.faults sink.old;
-      sink_faults_now = K.faults sink.new;
+      faults = S.faults source.old;
+      faults_now = S.faults source.new;
+      output = record {
+        written = K.written sink.old;
+        written_now = K.written sink.new;
+        faults = K.faults sink.old;
+        faults_now = K.faults sink.new;
+      };
     }) result }
 {
-    let text = match read_all(alloc, source, TEXT_LIMIT) {
-        Ok(text) => text,
-        Err(ReadAll::Fault) => return Status::SourceFault,
-        Err(ReadAll::TooLong) => return write_answer(sink, long_answer(task), Status::Refused),
-        Err(ReadAll::Memory) => return Status::Memory,
-    };
-    match answer_of(alloc, task, &text) {
-        Ok(Answer::Done(report)) => write_answer(sink, &report, Status::Done),
-        Ok(Answer::Refused(line)) => write_answer(sink, &line, Status::Refused),
-        Err(_) => Status::Memory,
-    }
-}
-
-// Writes an answer, and says with which status the call ends.
-fn write_answer<K: Sink>(sink: &mut K, answer: &[u8], whole: Status) -> Status
-    ensures { ((result ≡ whole) × Appends (K.written sink.old) (K.written sink.new) answer.now
-        × (K.faults sink.new ≡ K.faults sink.old))
-        ⊎ ((result ≡ Status.SinkFault) × HasRisen (K.faults sink.old) (K.faults sink.new)
-        × (n : ℕ) × (n ≤ length answer.now)
-        × Appends (K.written sink.old) (K.written sink.new) (take n answer.now)) }
-{
-    match write_all(sink, answer) {
-        Ok(()) => whole,
-        Err(_) => Status::SinkFault,
+    match read_all(alloc, source, TEXT_LIMIT) {
+        Ok(text) => answer(alloc, task, &text, sink, turnstile),
+        Err(ReadAll::TooLong) => write_answer(sink, too_long_line(), Status::Refused),
+        Err(ReadAll::Fault) => Status::SourceFault,
+        Err(ReadAll::Memory) => Status::Memory,
     }
 }
 

@@ -2,6 +2,7 @@
 //! input, runs it or checks its family of codes, and writes the report or the line of the check to standard output.
 #![tactic(auto)]
 
+use mf_client::Free;
 use mf_io::{StdSink, StdSource};
 use mf_top::morph;
 use std::alloc::AllocError;
@@ -31,7 +32,7 @@ fn main(rt: HostRuntime) -> ExitCode {
         Ok(words) => {
             let mut source = StdSource::new(rt.stdin());
             let mut sink = StdSink::new(rt.stdout());
-            morph(&rt, rt.alloc(), &words, &mut source, &mut sink)
+            morph(&rt, rt.alloc(), &words, &mut source, &mut sink, &Free)
         }
         Err(_) => NO_MEMORY,
     };

@@ -1,0 +1,274 @@
+-- A script has one plain run, words and a text have one answer, and a call ends well where nothing fails.
+use Rattle.std.proofs.Common.{◌≡◌, ◌≢◌, ℕ, zero, suc, ◌⊎◌, inl, inr, Bool, false, List, [], ◌∷◌, ◌++◌, map}
+use Rattle.std.proofs.Common.{Option, Some, All, refl, sym, ap, ◌∙◌, subst}
+use Rattle.std.specs.Prelude.{IfSome}
+use Rattle.std.specs.List.{list_any}
+use Rattle.std.proofs.lemmas.Bool.{or_parts}
+use Rattle.std.proofs.lemmas.List.Elements.{All-nil, All-cons, All-head, All-tail, All-map, All-from_get_or}
+use Rattle.mf_lines.specs.declared.parts.ScriptFault.{ScriptFault}
+use Rattle.mf_lines.specs.Meaning.{Script, main_of}
+use Rattle.mf_script.specs.Losses.{losses_of}
+use Rattle.mf_script.specs.Scripts.{IsScript}
+use Rattle.mf_script.specs.Faults.{IsFault, IsScriptFault}
+use Rattle.mf_plain.specs.Resting.{Resting}
+use Rattle.mf_plain.specs.Alone.{first_actor}
+use Rattle.mf_client.specs.declared.done.Done.{Done}
+use Rattle.mf_client.specs.Lacks.{lacks_memory}
+use Rattle.mf_client.specs.Laws.{IsWhole, HadMemory}
+use Rattle.mf_client.proofs.Once.{run_once}
+use Rattle.mf_script.proofs.Exclusive.{one_answer as scripts_are}
+use Rattle.mf_lines.specs.declared.parts.Content.TheVariants as given
+use Rattle.mf_report.specs.Report.{report_text}
+use Rattle.mf_report.specs.Verdicts.{accepted_text, refused_text, words_refusal}
+use Rattle.mf_top.specs.PlainRun.{new_file, first_actors, left_by, RunsPhase, RunsTo, IsPlainRun}
+use Rattle.mf_top.specs.Answers.{task_words, AsksNothing, IsRefused, IsRun, IsAnswer}
+use Rattle.mf_top.specs.Answers.{reported, lacked, accepted, refused, no_words}
+use Rattle.mf_top.specs.Ends.{Call, Ends}
+use Rattle.mf_top.specs.Laws.{RefusesAlike, OneAnswer, NothingFailed, Completes}
+use Rattle.mf_top.specs.declared.Task.{Task}
+use Rattle.mf_top.specs.declared.Task.TheVariants.{Run, Check}
+use Rattle.mf_top.specs.declared.Status.{Status}
+use Rattle.mf_top.specs.declared.Status.TheVariants as ended
+
+-- ---- a script has one plain run
+
+none_lacks : (done : List Done) → list_any lacks_memory done ≡ false → All HadMemory done
+none_lacks [] e = All-nil HadMemory
+none_lacks (d ∷ done) e =
+    let parts = or_parts (lacks_memory d) (list_any lacks_memory done) e in
+    All-cons HadMemory d done parts.0 (none_lacks done parts.1)
+
+all_front : (P : Done → Type 0) (xs ys : List Done) → All P (xs ++ ys) → All P xs
+all_front P [] ys h = All-nil P
+all_front P (x ∷ xs) ys h = All-cons P x xs (All-head P x (xs ++ ys) h) (all_front P xs ys (All-tail P x (xs ++ ys) h))
+
+all_behind : (P : Done → Type 0) (xs ys : List Done) → All P (xs ++ ys) → All P ys
+all_behind P [] ys h = h
+all_behind P (x ∷ xs) ys h = all_behind P xs ys (All-tail P x (xs ++ ys) h)
+
+somes : (xs ys : List Resting) → map Some xs ≡ map Some ys → xs ≡ ys
+somes [] [] e = refl
+somes [] (y ∷ ys) e = absurd cc
+somes (x ∷ xs) [] e = absurd cc
+somes (x ∷ xs) (y ∷ ys) e =
+    let both : (x ≡ y) × (map Some xs ≡ map Some ys) = heads x y (map Some xs) (map Some ys) e in
+    (λ i. both.0 i ∷ somes xs ys both.1 i)
+  where
+    heads : (x y : Resting) (xs ys : List (Option Resting)) → Some x ∷ xs ≡ Some y ∷ ys → (x ≡ y) × (xs ≡ ys)
+    heads x y xs ys e = (cc, cc)
+
+first_whole : (s : Script) (p : ℕ) (files : List Resting) → All IsWhole (first_actors s p files)
+first_whole s p files =
+    All-map IsWhole (λ r. first_actor r 0 (losses_of s p)) files
+    (All-from_get_or (λ r. IsWhole (first_actor r 0 (losses_of s p))) files (no_file tt) (λ i within. (_, refl)))
+  where
+    no_file : Unit {0} → Resting
+    no_file u = new_file s 0 (record { name = []; content = given.Empty })
+
+phase_once : (s : Script) (p : ℕ) (files one other : List Resting) (ds es : List Done) → RunsPhase s p files ds one
+    → RunsPhase s p files es other → All HadMemory ds → All HadMemory es → (ds ≡ es) × (one ≡ other)
+phase_once s p files one other ds es a b had_a had_b =
+    let same = run_once s p 1 (first_actors s p files) a.actors b.actors ds es
+    (first_whole s p files) a.runs b.runs had_a had_b in
+    (same.0, somes one other (sym a.rest ∙ ap (map left_by) same.1 ∙ b.rest))
+
+runs_once : (s : Script) (n : ℕ) (ds es : List Done) (one other : List Resting) → RunsTo s n ds one
+    → RunsTo s n es other
+    → All HadMemory ds → All HadMemory es → (ds ≡ es) × (one ≡ other)
+runs_once s zero ds es one other a b had_a had_b = (a.0 ∙ sym b.0, a.1 ∙ sym b.1)
+runs_once s (suc n) ds es one other a b had_a had_b =
+    let all_a = subst (All HadMemory) a.5 had_a in
+    let all_b = subst (All HadMemory) b.5 had_b in
+    let front = runs_once s n a.0 b.0 a.2 b.2 a.3 b.3 (all_front HadMemory a.0 a.1 all_a)
+    (all_front HadMemory b.0 b.1 all_b) in
+    let mine : RunsPhase s (suc n) b.2 a.1 one = subst (λ files. RunsPhase s (suc n) files a.1 one) front.1 a.4 in
+    let last = phase_once s (suc n) b.2 one other a.1 b.1 mine b.4 (all_behind HadMemory a.0 a.1 all_a)
+    (all_behind HadMemory b.0 b.1 all_b) in
+    (a.5 ∙ (λ i. front.0 i ++ last.0 i) ∙ sym b.5, last.1)
+
+-- ---- which answer it is
+
+-- of a script that was run, with the status
+record Ran (words : List (List ℕ)) (text : List ℕ) (m : ℕ) (x : List ℕ) : Type 0 where
+  script : Script
+  done : List Done
+  files : List Resting
+  asks : words ≡ task_words Run
+  run : IsRun text script done files
+  status : ((m ≡ 0) × (list_any lacks_memory done ≡ false)) ⊎ (m ≡ 5)
+  is : x ≡ report_text script done
+
+record Tried (words : List (List ℕ)) (text : List ℕ) (m : ℕ) (x : List ℕ) : Type 0 where
+  script : Script
+  asks : words ≡ task_words Check
+  read : IsScript text script
+  status : m ≡ 0
+  is : x ≡ accepted_text (main_of script).stages
+
+record Faulty (words : List (List ℕ)) (text : List ℕ) (m : ℕ) (x : List ℕ) : Type 0 where
+  task : Task
+  fault : ScriptFault
+  asks : words ≡ task_words task
+  refused : IsRefused text fault
+  status : m ≡ 1
+  is : x ≡ refused_text fault
+
+record Wordless (words : List (List ℕ)) (m : ℕ) (x : List ℕ) : Type 0 where
+  asks : AsksNothing words
+  status : m ≡ 2
+  is : x ≡ words_refusal
+
+data Shown (words : List (List ℕ)) (text : List ℕ) (m : ℕ) (x : List ℕ) : Type 0 where
+  by_run : Ran words text m x → Shown words text m x
+  by_check : Tried words text m x → Shown words text m x
+  by_fault : Faulty words text m x → Shown words text m x
+  by_words : Wordless words m x → Shown words text m x
+
+shown : (words : List (List ℕ)) (text : List ℕ) (m : ℕ) (x : List ℕ) → IsAnswer words text m x → Shown words text m x
+shown words text m x (reported s done files run fine) =
+    by_run (record {
+      script = s;
+      done = done;
+      files = files;
+      asks = refl;
+      run = run;
+      status = inl (refl, fine);
+      is = refl;
+    })
+shown words text m x (lacked s done files run lacks) =
+    by_run (record { script = s; done = done; files = files; asks = refl; run = run; status = inr refl; is = refl })
+shown words text m x (accepted s is) =
+    by_check (record { script = s; asks = refl; read = is; status = refl; is = refl })
+shown words text m x (refused task fault is) =
+    by_fault (record { task = task; fault = fault; asks = refl; refused = is; status = refl; is = refl })
+shown words text m x (no_words none) = by_words (record { asks = none; status = refl; is = refl })
+
+-- the words of the tasks differ
+apart : task_words Run ≡ task_words Check → ⊥
+apart e = cc
+
+-- a text with a fault is no script
+no_script : (text : List ℕ) (s : Script) (f : ScriptFault) → IsScript text s → IsRefused text f → ⊥
+no_script text s f is wrong = go wrong.fault_of_text
+  where
+    go : IsScriptFault text f → ⊥
+    go (inl memory) = wrong.not_memory memory
+    go (inr fault) = scripts_are.either text s f.line f.kind is fault
+
+fault_is : (text : List ℕ) (f : ScriptFault) → IsRefused text f → IsFault text f.line f.kind
+fault_is text f wrong = go wrong.fault_of_text
+  where
+    go : IsScriptFault text f → IsFault text f.line f.kind
+    go (inl memory) = absurd (wrong.not_memory memory)
+    go (inr fault) = fault
+
+-- ---- words and a text have one answer
+
+SameAnswer : (m n : ℕ) (x y : List ℕ) → Type 0
+SameAnswer m n x y = (m ≡ n) × ((x ≡ y) ⊎ RefusesAlike x y)
+
+fine : (m : ℕ) (b : Bool) → ((m ≡ 0) × (b ≡ false)) ⊎ (m ≡ 5) → m ≢ 5 → (m ≡ 0) × (b ≡ false)
+fine m b (inl h) other = h
+fine m b (inr e) other = absurd (other e)
+
+runs_alike : (words : List (List ℕ)) (text : List ℕ) (m n : ℕ) (x y : List ℕ) → Ran words text m x → Ran words text n y
+    → m ≢ 5 → n ≢ 5 → SameAnswer m n x y
+unfolding SameAnswer
+runs_alike words text m n x y a b one other =
+    let fine_a = fine m _ a.status one in
+    let fine_b = fine n _ b.status other in
+    let script : a.script ≡ b.script = scripts_are.script text a.script b.script a.run.script b.run.script in
+    let mine : IsPlainRun b.script a.done a.files = subst (λ s. IsPlainRun s a.done a.files) script a.run.run in
+    let same = runs_once b.script _ a.done b.done a.files b.files mine b.run.run (none_lacks a.done fine_a.1)
+    (none_lacks b.done fine_b.1) in
+    (fine_a.0 ∙ sym fine_b.0, inl (a.is ∙ (λ i. report_text (script i) (same.0 i)) ∙ sym b.is))
+
+faults_alike : (words : List (List ℕ)) (text : List ℕ) (m n : ℕ) (x y : List ℕ) → Faulty words text m x
+    → Faulty words text n y → SameAnswer m n x y
+unfolding SameAnswer
+faults_alike words text m n x y a b =
+    let same = scripts_are.fault text a.fault.line b.fault.line a.fault.kind b.fault.kind
+    (fault_is text a.fault a.refused)
+    (fault_is text b.fault b.refused) in (
+      a.status ∙ sym b.status,
+      inr (record {
+        one = a.fault;
+        other = b.fault;
+        first = a.is;
+        second = b.is;
+        line = same.0;
+        kind = same.1;
+      }),
+    )
+
+alike : (words : List (List ℕ)) (text : List ℕ) (m n : ℕ) (x y : List ℕ) → Shown words text m x → Shown words text n y
+    → m ≢ 5 → n ≢ 5 → SameAnswer m n x y
+unfolding SameAnswer
+alike words text m n x y (by_run a) (by_run b) one other = runs_alike words text m n x y a b one other
+alike words text m n x y (by_run a) (by_check b) one other = absurd (apart (sym a.asks ∙ b.asks))
+alike words text m n x y (by_run a) (by_fault b) one other =
+    absurd (no_script text a.script b.fault a.run.script b.refused)
+alike words text m n x y (by_run a) (by_words b) one other = absurd (b.asks Run a.asks)
+alike words text m n x y (by_check a) (by_run b) one other = absurd (apart (sym b.asks ∙ a.asks))
+alike words text m n x y (by_check a) (by_check b) one other =
+    let script : a.script ≡ b.script = scripts_are.script text a.script b.script a.read b.read in
+    (a.status ∙ sym b.status, inl (a.is ∙ ap (λ (s : Script). accepted_text (main_of s).stages) script ∙ sym b.is))
+alike words text m n x y (by_check a) (by_fault b) one other = absurd (no_script text a.script b.fault a.read b.refused)
+alike words text m n x y (by_check a) (by_words b) one other = absurd (b.asks Check a.asks)
+alike words text m n x y (by_fault a) (by_run b) one other =
+    absurd (no_script text b.script a.fault b.run.script a.refused)
+alike words text m n x y (by_fault a) (by_check b) one other = absurd (no_script text b.script a.fault b.read a.refused)
+alike words text m n x y (by_fault a) (by_fault b) one other = faults_alike words text m n x y a b
+alike words text m n x y (by_fault a) (by_words b) one other = absurd (b.asks a.task a.asks)
+alike words text m n x y (by_words a) (by_run b) one other = absurd (a.asks Run b.asks)
+alike words text m n x y (by_words a) (by_check b) one other = absurd (a.asks Check b.asks)
+alike words text m n x y (by_words a) (by_fault b) one other = absurd (a.asks b.task b.asks)
+alike words text m n x y (by_words a) (by_words b) one other = (a.status ∙ sym b.status, inl (a.is ∙ sym b.is))
+
+pub one_answer : OneAnswer
+unfolding SameAnswer
+one_answer words text m n x y a b one other =
+    alike words text m n x y (shown words text m x a) (shown words text n y b) one other
+
+-- ---- a call ends well where nothing fails
+
+-- an answer of status 1 to a script's run, or of status 2 to the words of a task, is none
+not_refused : (words : List (List ℕ)) (text : List ℕ) (s : Script) (x : List ℕ) → Shown words text 1 x
+    → IsScript text s → ⊥
+not_refused words text s x (by_run a) is =
+    elim a.status [ inl h ↦ let told = h.0 in cc | inr e ↦ cc ]
+not_refused words text s x (by_check a) is = let told = a.status in cc
+not_refused words text s x (by_fault a) is = no_script text s a.fault is a.refused
+not_refused words text s x (by_words a) is = let told = a.status in cc
+
+not_words : (task : Task) (words : List (List ℕ)) (text x : List ℕ) → words ≡ task_words task → Shown words text 2 x → ⊥
+not_words task words text x e (by_run a) = elim a.status [ inl h ↦ let told = h.0 in cc | inr e ↦ cc ]
+not_words task words text x e (by_check a) = let told = a.status in cc
+not_words task words text x e (by_fault a) = let told = a.status in cc
+not_words task words text x e (by_words a) = a.asks task e
+
+run_ends_well : (c : Call) (status : Status) (text : List ℕ) (s : Script) → Ends c status → c.words ≡ task_words Run
+    → c.left ≡ Some text → IsScript text s → NothingFailed c → (status ≡ ended.Done) ⊎ (status ≡ ended.Memory)
+run_ends_well c ended.Done text s h asks left is held = inl refl
+run_ends_well c ended.Memory text s h asks left is held = inr refl
+run_ends_well c ended.Refused text s h asks left is held =
+    let same : h.text ≡ text = subst (λ l. IfSome l (λ bytes. h.text ≡ bytes)) left h.input in
+    absurd (not_refused c.words h.text s h.writes.bytes (shown c.words h.text 1 h.writes.bytes h.writes.answer)
+    (subst (λ t. IsScript t s) (sym same) is))
+run_ends_well c ended.Words text s h asks left is held =
+    absurd (not_words Run c.words h.text h.writes.bytes asks (shown c.words h.text 2 h.writes.bytes h.writes.answer))
+run_ends_well c ended.SourceFault text s h asks left is held = absurd (held.reads h.1)
+run_ends_well c ended.SinkFault text s h asks left is held = absurd (held.writes h.writes.failed)
+
+check_ends_well : (c : Call) (status : Status) → Ends c status → c.words ≡ task_words Check → NothingFailed c
+    → (status ≡ ended.Done) ⊎ ((status ≡ ended.Refused) ⊎ (status ≡ ended.Memory))
+check_ends_well c ended.Done h asks held = inl refl
+check_ends_well c ended.Refused h asks held = inr (inl refl)
+check_ends_well c ended.Memory h asks held = inr (inr refl)
+check_ends_well c ended.Words h asks held =
+    absurd (not_words Check c.words h.text h.writes.bytes asks (shown c.words h.text 2 h.writes.bytes h.writes.answer))
+check_ends_well c ended.SourceFault h asks held = absurd (held.reads h.1)
+check_ends_well c ended.SinkFault h asks held = absurd (held.writes h.writes.failed)
+
+pub ends_well : Completes
+ends_well = record { run = run_ends_well; check = check_ends_well }

@@ -1,0 +1,25 @@
+use Rattle.std.proofs.Common.{ap, ◌∙◌}
+use Rattle.mf_shape.specs.Chain.{Chain}
+use Rattle.mf_check.specs.Families.{Code}
+use Rattle.mf_report.specs.Verdicts.{accepted_text}
+use Rattle.mf_top.specs.Answers.{task_words}
+use Rattle.mf_top.specs.Writes.{Output}
+use Rattle.mf_top.specs.declared.Status.TheVariants.{Done}
+use Rattle.mf_top.specs.declared.Task.TheVariants.{Check}
+use Rattle.mf_top.proofs.Ending.{accepted_read, written}
+use Rattle.mf_top.proofs.answers.answer_check.Goals as goal
+
+pub returns-in-Ok : goal.returns-in-Ok
+returns-in-Ok g c =
+    let out : Output = record {
+      written = g.K.Sink.written c.args.sink.now;
+      written_now = g.K.Sink.written c.write_answer.new.sink;
+      faults = g.K.Sink.faults c.args.sink.now;
+      faults_now = g.K.Sink.faults c.write_answer.new.sink;
+    } in
+    let line = c.deref.ensures.value ∙ c.in-Ok.ensures
+    ∙ ap (λ (shape : Chain). accepted_text shape.stages) (c.shape.ensures.value
+    ∙ ap (λ (family : Code). family.shape) c.family.ensures) in
+    λ text is.
+    written out (task_words Check) text c.deref.result.now Done c.write_answer.result 0
+    (accepted_read text c.deref.result.now c.args.script.now is line) (λ w. w) c.write_answer.ensures

@@ -1,0 +1,39 @@
+-- Laws of what the program answers, and of how a call ends.
+use Rattle.std.specs.Prelude.{◌≡◌, ◌≢◌, ℕ, ◌⊎◌, List, Some}
+use Rattle.mf_io.specs.Faults.{HasRisen}
+use Rattle.mf_lines.specs.declared.parts.ScriptFault.{ScriptFault}
+use Rattle.mf_lines.specs.Meaning.{Script}
+use Rattle.mf_script.specs.Laws.{bare}
+use Rattle.mf_script.specs.Scripts.{IsScript}
+use Rattle.mf_report.specs.Verdicts.{refused_text}
+use Rattle.mf_top.specs.Answers.{task_words, IsAnswer}
+use Rattle.mf_top.specs.Ends.{Call, Ends}
+use Rattle.mf_top.specs.declared.Task.TheVariants.{Run, Check}
+use Rattle.mf_top.specs.declared.Status.{Status}
+use Rattle.mf_top.specs.declared.Status.TheVariants.{Done, Refused, Memory}
+
+-- Both are the lines of one fault. Nothing is said of the kernel list of a set of places that isn't decodable.
+pub record RefusesAlike (x y : List ℕ) : Type 0 where
+  pub one : ScriptFault
+  pub other : ScriptFault
+  pub first : x ≡ refused_text one
+  pub second : y ≡ refused_text other
+  pub line : one.line ≡ other.line
+  pub kind : bare one.kind ≡ bare other.kind
+
+-- Words and a text have one status and one answer, where no command lacks memory.
+abbrev pub OneAnswer : Type 0
+OneAnswer = (words : List (List ℕ)) (text : List ℕ) (m n : ℕ) (x y : List ℕ) → IsAnswer words text m x
+    → IsAnswer words text n y → m ≢ 5 → n ≢ 5 → (m ≡ n) × ((x ≡ y) ⊎ RefusesAlike x y)
+
+-- no read of the call failed, and no write
+pub record NothingFailed (c : Call) : Type 0 where
+  pub reads : HasRisen c.faults c.faults_now → ⊥
+  pub writes : HasRisen c.output.faults c.output.faults_now → ⊥
+
+-- Where nothing failed, a call that runs a script ends with 0 or 5, and one that tries a family with 0, 1 or 5.
+pub record Completes : Type 0 where
+  pub run : (c : Call) (status : Status) (text : List ℕ) (s : Script) → Ends c status → c.words ≡ task_words Run
+      → c.left ≡ Some text → IsScript text s → NothingFailed c → (status ≡ Done) ⊎ (status ≡ Memory)
+  pub check : (c : Call) (status : Status) → Ends c status → c.words ≡ task_words Check → NothingFailed c
+      → (status ≡ Done) ⊎ ((status ≡ Refused) ⊎ (status ≡ Memory))

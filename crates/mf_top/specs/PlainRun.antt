@@ -1,0 +1,71 @@
+-- *Plain run*: what the phases of a script do, one after the other, where each has one client.
+use Rattle.std.specs.Prelude.{◌≡◌, ℕ, zero, suc, ◌+◌, List, [], ◌∷◌, ◌++◌, length, map, Option, Some}
+use Rattle.std.specs.Option.{option_map}
+use Rattle.mf_places.specs.Facts.{BookFacts}
+use Rattle.mf_lines.specs.declared.parts.FileLine.{FileLine}
+use Rattle.mf_lines.specs.Meaning.{Script}
+use Rattle.mf_script.specs.Contents.{bytes_in}
+use Rattle.mf_script.specs.Losses.{losses_of}
+use Rattle.mf_vault.specs.Actor.{Actor}
+use Rattle.mf_plain.specs.Resting.{Resting, unborn}
+use Rattle.mf_plain.specs.Alone.{first_actor, rested}
+use Rattle.mf_client.specs.declared.done.Done.{Done}
+use Rattle.mf_client.specs.Clients.{family_of, clients_of, phases_in}
+use Rattle.mf_client.specs.Runs.{Runs}
+
+-- ---- the files before the first phase
+
+-- what the book lays out of the script's file of this number and this line
+abbrev pub book_of : Script → ℕ → FileLine → BookFacts
+book_of s n line = record {
+  shape = (family_of s).shape;
+  points = (family_of s).points;
+  chunk = s.chunk;
+  file = n;
+  bytes = length (bytes_in line.content);
+}
+
+-- that file, not created
+abbrev pub new_file : Script → ℕ → FileLine → Resting
+new_file s n line = unborn (book_of s n line) (bytes_in line.content)
+
+-- the files of these lines, of which the first has this number
+abbrev pub new_from : Script → ℕ → List FileLine → List Resting
+new_from s n [] = []
+new_from s n (line ∷ lines) = new_file s n line ∷ new_from s (n + 1) lines
+
+-- all files of the script
+abbrev pub new_files : Script → List Resting
+new_files s = new_from s 0 s.files
+
+-- ---- a phase
+
+-- the only actor of each file at rest, as the phase begins
+abbrev pub first_actors : Script → (phase : ℕ) → List Resting → List Actor
+first_actors s phase files = map (λ r. first_actor r 0 (losses_of s phase)) files
+
+-- the file at rest that is left of what an actor tells
+abbrev pub left_by : Actor → Option Resting
+left_by a = option_map (rested a.facts) a.whole
+
+-- The phase has one client. Its commands, done so, led from the first actor of each file to these actors, which leave
+-- the files at rest again.
+pub record RunsPhase (s : Script) (phase : ℕ) (before : List Resting) (done : List Done) (after : List Resting)
+    : Type 0 where
+  pub one : length (clients_of s phase) ≡ 1
+  pub actors : List Actor
+  pub runs : Runs s phase 1 (first_actors s phase before) done actors
+  pub rest : map left_by actors ≡ map Some after
+
+-- ---- all phases
+
+-- the first n phases led from the script's new files to these at rest, and their commands were done so
+abbrev pub RunsTo : Script → (n : ℕ) → List Done → List Resting → Type 0
+RunsTo s zero done files = (done ≡ []) × (files ≡ new_files s)
+RunsTo s (suc n) done files =
+    (before last : List Done) × (mid : List Resting) × RunsTo s n before mid × RunsPhase s (suc n) mid last files
+    × (done ≡ before ++ last)
+
+-- the commands of all phases were done so, and these files are left
+abbrev pub IsPlainRun : Script → List Done → List Resting → Type 0
+IsPlainRun s done files = RunsTo s (length (phases_in s.items)) done files

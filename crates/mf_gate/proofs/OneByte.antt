@@ -50,11 +50,13 @@ unfolding count_of all_names data_names copies_named copy_names stripe_parities 
 two_names = refl
 
 pub first_cell : (file_of one_byte).cell 0 ≡ 97 ∷ []
-unfolding name_at all_names data_names copies_named copy_names stripe_parities width_parities parity_names chunk parity parity_byte
+unfolding name_at all_names data_names copies_named copy_names stripe_parities width_parities parity_names chunk
+    parity parity_byte
 first_cell = refl
 
 second_cell : (file_of one_byte).cell 1 ≡ 97 ∷ []
-unfolding name_at all_names data_names copies_named copy_names stripe_parities width_parities parity_names chunk parity parity_byte sum_below times remainder carryless power
+unfolding name_at all_names data_names copies_named copy_names stripe_parities width_parities parity_names chunk
+    parity parity_byte sum_below times remainder carryless power
 second_cell = refl
 
 held : (file_of one_byte).holds 0 0 ≡ true
@@ -143,13 +145,18 @@ lost_slots f n l lose.Again x p p' s = ap slots s.becomes ∙ lose_slots (row.lo
 lost_slots f n l lose.Nothing x p p' s = ap slots s.becomes ∙ lose_slots (row.lose_answer x) n l (view p)
 
 -- so an actor that could take a name may see it
-pub sees_still : (p q : Pass) → row.MayTake (file p) 0 (view p) → passes.told q ≡ passes.told p → slots (view q) ≡ slots (view p)
+pub sees_still : (p q : Pass) → row.MayTake (file p) 0 (view p) → passes.told q ≡ passes.told p
+    → slots (view q) ≡ slots (view p)
     → Active (view q) → Idle (view q) → row.MaySee (file q) 0 (view q)
 sees_still p q may e s active idle = (
   active,
   idle,
   subst (λ (k : About). 0 < (file_of k).names) (sym e) may.2,
-  inl (subst (λ (z : About × ℕ × ℕ). PinHolds (file_of z.0) z.1 z.2 0) (λ j. (sym e j, (sym s j).0, (sym s j).1)) may.3),
+  inl (subst (λ (z : About × ℕ × ℕ). PinHolds (file_of z.0) z.1 z.2 0) (λ j. (
+    sym e j,
+    (sym s j).0,
+    (sym s j).1,
+  )) may.3),
 )
 
 -- a pin in each slot

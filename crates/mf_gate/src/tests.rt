@@ -85,7 +85,8 @@ fn passes_split_eight_deep_and_joined_leave_the_state(rt: HostRuntime) -> Result
     Ok(())
 }
 
-// What the second actor is answered of name 0 while the first one has it Taken, and once it is lost.
+// What the second actor is answered of name 0 while the first one has it Taken, and once it is
+// lost.
 fn assert_met_again(rt: &impl Abort, gate: &Gate, first: &mut Pass, second: &mut Pass)
     requires at { IsAt first.old gate.now × IsAt second.old gate.now }
     requires first { MayTake (file first.old) 0 (view first.old) }

@@ -21,7 +21,8 @@ new-made-requires g c = let b = c.in_ok-book.ensures ∙ ap (λ (s : Chain). rec
 }) c.in_ok-shape.ensures.kept.0 in
     let losses : c.push.new.self ≡ (record { line = 7; server = 0 }) ∷ [] = search rules in
     let names : c.push-3.new.self.items ≡ rest.Here (97 ∷ []) ∷ rest.Here (97 ∷ []) ∷ [] = search rules in
-    subst AtRest (λ j. about_of (sym b j) (sym c.pick-bytes.ensures j) (sym losses j) 1 (false ∷ []) (sym names j)) one_rests
+    subst AtRest (λ j. about_of (sym b j) (sym c.pick-bytes.ensures j) (sym losses j) 1 (false ∷ [])
+    (sym names j)) one_rests
 
 pub assert_met_again-requires-clause-first : goal.assert_met_again-requires-clause-first
 assert_met_again-requires-clause-first g c = let b = c.in_ok-book.ensures ∙ ap (λ (s : Chain). record {

@@ -16,4 +16,5 @@ see-requires-2-clause-may g c = let p = c.args.second.now in
     ∙ (lost_slots (file c.see.new.pass) 0 7 _ _ c.see.new.pass c.lose-2.new.pass c.lose-2.ensures.row.1
     ∙ (saw_slots (file c.lose.new.pass) 0 _ c.lose.new.pass c.see.new.pass c.see.ensures.row.1
     ∙ (lost_slots (file c.take-2.new.pass) 0 7 _ _ c.take-2.new.pass c.lose.new.pass c.lose.ensures.row.1
-    ∙ took_slots (file p) 0 _ p c.take-2.new.pass c.take-2.ensures.row.1)))) c.lose-3.new.pass.active c.lose-3.new.pass.idle
+    ∙ took_slots (file p) 0 _ p c.take-2.new.pass c.take-2.ensures.row.1)))) c.lose-3.new.pass.active
+    c.lose-3.new.pass.idle

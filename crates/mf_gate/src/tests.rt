@@ -68,6 +68,9 @@ fn split_and_join(gate: &Gate, pass: &mut Pass, share: u32)
     gate.join(pass, next);
 }
 
+// Threads may share a gate, and a pass may move from one to another.
+fn cross<G: Sync, P: Send>(_gate: &G, _pass: &P) {}
+
 #[test]
 fn passes_split_eight_deep_and_joined_leave_the_state(rt: HostRuntime) -> Result<(), Fail> {
     let alloc = rt.alloc();
@@ -79,6 +82,7 @@ fn passes_split_eight_deep_and_joined_leave_the_state(rt: HostRuntime) -> Result
     let Ok((gate, mut pass)) = made else {
         panic!(rt; "no memory")
     };
+    cross(&gate, &pass);
     split_and_join(&gate, &mut pass, 256);
     let (number, closed, names) = gate.rest(pass);
     assert_eq!(rt; (number, closed[0], names.len()), (1, false, 0));

@@ -19,7 +19,8 @@ use Rattle.mf_lines.specs.declared.forms.Form.{Form}
 use Rattle.mf_lines.specs.declared.forms.Form.TheVariants as says
 use Rattle.mf_lines.specs.Meaning.{Script, SoFar, on_last, with_client, client_with, with_command, with_form, with_line}
 use Rattle.mf_lines.specs.Meaning.{so_before, so_with, so_of, names_in, file_in}
-use Rattle.mf_lines.proofs.FormLemmas.{KnowsFile, line_is}
+use Rattle.mf_lines.proofs.LineWordLemmas.{KnowsFile}
+use Rattle.mf_lines.proofs.FormLemmas.{line_is}
 use Rattle.mf_script.specs.Texts.{MakeForms}
 use Rattle.mf_script.specs.Scripts.{IsScript}
 use Rattle.mf_client.specs.Clients.{phases_in, clients_of, commands_of}
@@ -140,6 +141,7 @@ good_form s n line (says.Command act) k h =
     let x : Command = record { line = line; act = act } in
     let r = command_items (KnowsIt (length s.files)) x s.items (named s (file_in act) k) h.0 in
     let e = r.1 in (r.0, omega arith)
+good_form s n line (says.Dump file) k h = let low = h.1 in (h.0, omega arith)
 good_form s n line says.End k h = let low = h.1 in (h.0, omega arith)
 
 good_lines : (so : SoFar) (lines : List (List ℕ)) (forms : List Form) (n : ℕ) → MakeForms so lines forms

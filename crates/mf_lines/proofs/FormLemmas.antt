@@ -1,515 +1,158 @@
 -- A line that has a form is that form's text, stands where it may, and names what it must.
-use Rattle.std.proofs.Common.{◌≡◌, ℕ, suc, ◌+◌, ◌<◌, Bool, true, false, not, ◌||◌, eqb, ltb, leb, List, [], ◌∷◌, ◌++◌}
-use Rattle.std.proofs.Common.{length, map, Option, Some, None, Result, Ok, Err, refl, sym, ap, ◌∙◌, subst, arith, inl}
-use Rattle.std.proofs.Common.{inr, ◌⊎◌}
-use Rattle.std.specs.Prelude.{codes, ok_or, IfSome}
-use Rattle.std.specs.List.{find, position_or_len, list_any, join_with_byte}
+use Rattle.std.proofs.Common.{◌≡◌, ℕ, ◌≤◌, true, false, not, leb, List}
+use Rattle.std.proofs.Common.{[], ◌∷◌, length, Option, Some, None, Ok, refl, sym, ap, ◌∙◌, subst}
+use Rattle.std.proofs.Common.{inl, inr, ◌⊎◌}
+use Rattle.std.specs.Prelude.{codes, ok_or}
+use Rattle.std.specs.List.{join_with_byte}
 use Rattle.std.specs.Str.{bytes_eq}
 use Rattle.std.proofs.lemmas.Bool.{cases_Bool, cond-true, cond-false, not-false}
 use Rattle.std.proofs.lemmas.Slice.Eq.{bytes_eq-Decides}
-use Rattle.mf_text.specs.Decimal.{decimal_text, decimal_of}
-use Rattle.mf_text.specs.Hex.{hex_of}
 use Rattle.mf_text.specs.Lines.{is_clean}
 use Rattle.mf_text.specs.Words.{words_of}
-use Rattle.mf_text.proofs.DecimalLemmas.{decimal_text-from}
-use Rattle.mf_text.proofs.HexLemmas.{hex_text-from}
-use Rattle.mf_text.proofs.LineLemmas.{position_some}
-use Rattle.mf_text.proofs.WordLemmas.{join-words_of}
-use Rattle.mf_places.specs.Servers.{no_servers}
-use Rattle.mf_lines.specs.declared.parts.Kind.{Kind}
+use Rattle.mf_text.proofs.WordLemmas.{is_word, AreWordsAlone, join-words_of, words_of-join, words_of-words}
 use Rattle.mf_lines.specs.declared.parts.Kind.TheVariants as kind
 use Rattle.mf_lines.specs.declared.parts.LimitName.TheVariants as limit
-use Rattle.mf_lines.specs.declared.parts.Content.{Content}
-use Rattle.mf_lines.specs.declared.parts.Content.TheVariants as given
-use Rattle.mf_lines.specs.declared.parts.Act.{Act}
-use Rattle.mf_lines.specs.declared.parts.Act.TheVariants as act
 use Rattle.mf_lines.specs.declared.words.Verb.{Verb}
-use Rattle.mf_lines.specs.declared.words.Verb.TheVariants as verb
 use Rattle.mf_lines.specs.declared.words.LineWord.{LineWord}
 use Rattle.mf_lines.specs.declared.words.LineWord.TheVariants as word
-use Rattle.mf_lines.specs.declared.words.ContentWord.{ContentWord}
-use Rattle.mf_lines.specs.declared.words.ContentWord.TheVariants as content
 use Rattle.mf_lines.specs.declared.forms.Form.{Form}
 use Rattle.mf_lines.specs.declared.forms.Form.TheVariants as says
-use Rattle.mf_lines.specs.Words.{◌>>=◌, refuse, verb_text, word_text, line_words, word_of, content_text}
-use Rattle.mf_lines.specs.Words.{content_words, content_word_of, no_words, one_word, two_words, three_words, spelled}
-use Rattle.mf_lines.specs.Words.{small, number_in}
-use Rattle.mf_lines.specs.Meaning.{SoFar, names_in, last_clients, verb_of, file_in, first_word}
-use Rattle.mf_lines.specs.Lines.{within, servers_form, chunk_form, is_above, numbers_in, points_in, points_form}
-use Rattle.mf_lines.specs.Lines.{stage_form, has_name, file_number, text_in, hex_in, pattern_in, content_in}
-use Rattle.mf_lines.specs.Lines.{file_limits, file_form, file_operand, act_in, form_in, may_follow, first_form}
-use Rattle.mf_lines.specs.Lines.{later_form, placed, form_at, command_fits, lacks_server, server_operand}
+use Rattle.mf_lines.specs.Words.{refuse, word_text, word_of}
+use Rattle.mf_lines.specs.Words.{no_words, spelled}
+use Rattle.mf_lines.specs.Meaning.{SoFar, names_in, last_clients, first_word}
+use Rattle.mf_lines.specs.Lines.{within}
+use Rattle.mf_lines.specs.Lines.{form_in, may_follow, first_form}
+use Rattle.mf_lines.specs.Lines.{later_form, placed, form_at, knows_servers}
 use Rattle.mf_lines.specs.declared.draft.Draft.{Draft}
 use Rattle.mf_lines.specs.Drafts.{IsNew}
-use Rattle.mf_lines.specs.LineTexts.{content_word, behind_content, name_at, behind_verb, behind_word, line_text}
-
--- ---- what was had on the way to what is had
-
-record Bound {A B : Type 0} (r : Result A Kind) (f : A → Result B Kind) (x : B) : Type 0 where
-  value : A
-  is : r ≡ Ok value
-  next : f value ≡ Ok x
-
-bound : {A B : Type 0} (r : Result A Kind) (f : A → Result B Kind) (x : B) → (r >>= f) ≡ Ok x → Bound r f x
-bound (Ok a) f x e = record { value = a; is = refl; next = e }
-bound (Err k) f x e = absurd cc
-
-some_is : {A : Type 0} (o : Option A) (k : Kind) (x : A) → ok_or o k ≡ Ok x → o ≡ Some x
-some_is (Some y) k x e = let same : y ≡ x = cc in ap Some same
-some_is None k x e = absurd cc
-
-not_refused : (b : Bool) (k : Kind) (u : Unit {0}) → refuse b k ≡ Ok u → b ≡ false
-not_refused true k u e = absurd cc
-not_refused false k u e = refl
-
--- ---- words
-
-none_is : (ws : List (List ℕ)) (u : Unit {0}) → no_words ws ≡ Ok u → ws ≡ []
-none_is [] u e = refl
-none_is (w ∷ ws) u e = absurd cc
-
-one_is : (ws : List (List ℕ)) (w : List ℕ) → one_word ws ≡ Ok w → ws ≡ w ∷ []
-one_is [] w e = absurd cc
-one_is (a ∷ []) w e = let same : a ≡ w = cc in ap (λ x. x ∷ []) same
-one_is (a ∷ b ∷ ws) w e = absurd cc
-
-two_is : (ws : List (List ℕ)) (two : List ℕ × List ℕ) → two_words ws ≡ Ok two → ws ≡ two.0 ∷ two.1 ∷ []
-two_is [] two e = absurd cc
-two_is (a ∷ []) two e = absurd cc
-two_is (a ∷ b ∷ []) two e = let same : (a, b) ≡ two = cc in ap (λ (t : List ℕ × List ℕ). t.0 ∷ t.1 ∷ []) same
-two_is (a ∷ b ∷ c ∷ ws) two e = absurd cc
-
-three_is : (ws : List (List ℕ)) (three : List ℕ × List ℕ × List ℕ) → three_words ws ≡ Ok three
-    → ws ≡ three.0 ∷ three.1 ∷ three.2 ∷ []
-three_is [] three e = absurd cc
-three_is (a ∷ []) three e = absurd cc
-three_is (a ∷ b ∷ []) three e = absurd cc
-three_is (a ∷ b ∷ c ∷ []) three e =
-    let same : (a, b, c) ≡ three = cc in ap (λ (t : List ℕ × List ℕ × List ℕ). t.0 ∷ t.1 ∷ t.2 ∷ []) same
-three_is (a ∷ b ∷ c ∷ d ∷ ws) three e = absurd cc
-
--- what is found passes
-find_passes : {X : Type 0} (p : X → Bool) (xs : List X) (x : X) → find p xs ≡ Some x → p x ≡ true
-find_passes p [] x e = absurd cc
-find_passes p (y ∷ ys) x e =
-    elim (cases_Bool (p y)) [
-      | inl holds ↦
-          let at = sym (cond-true _ _ _ holds) ∙ e in
-          let is : y ≡ x = cc in
-          subst (λ z. p z ≡ true) is holds
-      | inr fails ↦ find_passes p ys x (sym (cond-false _ _ _ fails) ∙ e)
-    ]
-
-word_is : (bytes : List ℕ) (x : LineWord) → word_of bytes ≡ Some x → bytes ≡ word_text x
-unfolding word_of
-word_is bytes x e =
-    (bytes_eq-Decides bytes (word_text x)).0 (find_passes (λ w. bytes_eq bytes (word_text w)) line_words x e)
-
-content_is : (bytes : List ℕ) (x : ContentWord) → content_word_of bytes ≡ Some x → bytes ≡ content_text x
-unfolding content_word_of
-content_is bytes x e =
-    (bytes_eq-Decides bytes (content_text x)).0 (find_passes (λ w. bytes_eq bytes (content_text w)) content_words x e)
-
--- ---- numbers
-
-spelled_is : (w : List ℕ) (n : ℕ) → spelled w ≡ Ok n → w ≡ decimal_text n
-spelled_is w n e = (decimal_text-from w n (some_is (decimal_of w) kind.Number n e)).0
-
-small_is : (m n : ℕ) → small m ≡ Ok n → m ≡ n
-small_is m n e =
-    elim (cases_Bool (ltb 4294967295 m)) [
-      | inl holds ↦ let at = sym (cond-true _ _ _ holds) ∙ e in absurd cc
-      | inr fails ↦ let at = sym (cond-false _ _ _ fails) ∙ e in cc
-    ]
-
-number_is : (w : List ℕ) (n : ℕ) → number_in w ≡ Ok n → w ≡ decimal_text n
-number_is w n e =
-    let b = bound (spelled w) small n e in
-    spelled_is w b.value b.is ∙ ap decimal_text (small_is b.value n b.next)
-
-numbers_are : (ws : List (List ℕ)) (ns : List ℕ) → numbers_in ws ≡ Ok ns → ws ≡ map decimal_text ns
-numbers_are [] ns e = let same : [] ≡ ns = cc in ap (map decimal_text) same
-numbers_are (w ∷ ws) ns e =
-    let a = bound (spelled w) (λ n. numbers_in ws >>= λ more. Ok (n ∷ more)) ns e in
-    let b = bound (numbers_in ws) (λ more. Ok (a.value ∷ more)) ns a.next in
-    let same : a.value ∷ b.value ≡ ns = let n = b.next in cc in
-    (λ i. spelled_is w a.value a.is i ∷ numbers_are ws b.value b.is i) ∙ ap (map decimal_text) same
-
--- ---- names
-
--- a file's number is that of its name
-found_is : (names : List (List ℕ)) (w : List ℕ) → position_or_len (bytes_eq w) names < length names
-    → name_at names (position_or_len (bytes_eq w) names) ≡ w
-found_is [] w lt = absurd (omega arith)
-found_is (name ∷ names) w lt =
-    elim (cases_Bool (bytes_eq w name)) [
-      | inl holds ↦
-          let at : position_or_len (bytes_eq w) (name ∷ names) ≡ 0 = cond-false _ _ _ (ap not holds) in
-          ap (name_at (name ∷ names)) at ∙ sym ((bytes_eq-Decides w name).0 holds)
-      | inr fails ↦
-          let at : position_or_len (bytes_eq w) (name ∷ names) ≡ 1 + position_or_len (bytes_eq w) names =
-          cond-true _ _ _ (ap not fails) in
-          let next : 1 + position_or_len (bytes_eq w) names ≡ suc (position_or_len (bytes_eq w) names) = omega arith in
-          ap (name_at (name ∷ names)) (at ∙ next) ∙ found_is names w (omega arith)
-    ]
-
-file_is : (names : List (List ℕ)) (w : List ℕ) (n : ℕ) → file_number names w ≡ Some n
-    → (name_at names n ≡ w) × (n < length names)
-file_is names w n e =
-    let at = position_some (bytes_eq w) names n e in
-    let same = at.1 in
-    (ap (name_at names) (sym at.1) ∙ found_is names w (omega (arith, at.0)), at.0)
-
--- ---- what is read of a line behind its first word
-
--- a file line has a name that no earlier one has
-abbrev pub NewName : List (List ℕ) → Form → Type 0
-NewName names (says.File file) = has_name names file.name ≡ false
-NewName names form = Unit {0}
-
--- a command is on a file that stands before it, or on none
-abbrev pub KnowsFile : List (List ℕ) → Form → Type 0
-KnowsFile names (says.Command act) = IfSome (file_in act) (λ file. file < length names)
-KnowsFile names form = Unit {0}
-
-record IsRead (names : List (List ℕ)) (first : LineWord) (ws : List (List ℕ)) (form : Form) : Type 0 where
-  word : first_word form ≡ first
-  text : join_with_byte 32 (word_text first ∷ ws) ≡ join_with_byte 32
-      (word_text (first_word form) ∷ behind_word names form)
-  new : NewName names form
-  known : KnowsFile names form
-
--- a line of no words but the first
-bare_read : (names : List (List ℕ)) (first : LineWord) (ws : List (List ℕ)) (u : Unit {0}) (plain form : Form)
-    → no_words ws ≡ Ok u → plain ≡ form → first_word plain ≡ first → behind_word names plain ≡ []
-    → NewName names plain → KnowsFile names plain → IsRead names first ws form
-bare_read names first ws u plain form e is word none new known =
-    subst (IsRead names first ws) is (record {
-      word = word;
-      text = (λ i. join_with_byte 32 (word_text (sym word i) ∷ (none_is ws u e ∙ sym none) i));
-      new = new;
-      known = known;
-    })
-
-servers_read : (names : List (List ℕ)) (ws : List (List ℕ)) (form : Form) → servers_form ws ≡ Ok form
-    → IsRead names word.Servers ws form
-servers_read names ws form e =
-    let a = bound (one_word ws) (λ w. number_in w >>= λ n. Ok (says.Servers n)) form e in
-    let b = bound (number_in a.value) (λ n. Ok (says.Servers n)) form a.next in
-    let is : says.Servers b.value ≡ form = let n = b.next in cc in
-    let words = one_is ws a.value a.is ∙ ap (λ w. w ∷ []) (number_is a.value b.value b.is) in
-    subst (IsRead names word.Servers ws) is (record {
-      word = refl;
-      text = ap (λ x. join_with_byte 32 (codes "servers" ∷ x)) words;
-      new = tt;
-      known = tt;
-    })
-
-chunk_read : (names : List (List ℕ)) (ws : List (List ℕ)) (form : Form) → chunk_form ws ≡ Ok form
-    → IsRead names word.Chunk ws form
-chunk_read names ws form e =
-    let a = bound (one_word ws) _ form e in
-    let b = bound (number_in a.value) _ form a.next in
-    let c = bound (within ((eqb b.value 0 || ltb 65536 b.value, limit.Chunk) ∷ []))
-    (λ _. Ok (says.Chunk b.value)) form b.next in
-    let is : says.Chunk b.value ≡ form = let n = c.next in cc in
-    let words = one_is ws a.value a.is ∙ ap (λ w. w ∷ []) (number_is a.value b.value b.is) in
-    subst (IsRead names word.Chunk ws) is (record {
-      word = refl;
-      text = ap (λ x. join_with_byte 32 (codes "chunk" ∷ x)) words;
-      new = tt;
-      known = tt;
-    })
-
-points_read : (names : List (List ℕ)) (ws : List (List ℕ)) (form : Form) → points_form ws ≡ Ok form
-    → IsRead names word.Points ws form
-points_read names [] form e = absurd cc
-points_read names (w ∷ ws) form e =
-    let a = bound (numbers_in (w ∷ ws)) points_in form e in
-    let b = bound
-    (within ((list_any (is_above 4294967295) a.value, limit.Number) ∷
-    (list_any (is_above 255) a.value, limit.Point) ∷ (ltb 4 (length a.value), limit.Points) ∷ []))
-    (λ _. Ok (says.Points a.value)) form a.next in
-    let is : says.Points a.value ≡ form = let n = b.next in cc in
-    subst (IsRead names word.Points (w ∷ ws)) is (record {
-      word = refl;
-      text =
-          ap (λ x. join_with_byte 32 (codes "points" ∷ x)) (numbers_are (w ∷ ws) a.value a.is);
-      new = tt;
-      known = tt;
-    })
-
-stage_read : (names : List (List ℕ)) (ws : List (List ℕ)) (form : Form) → stage_form ws ≡ Ok form
-    → IsRead names word.Stage ws form
-stage_read names ws form e =
-    let t = bound (three_words ws) _ form e in
-    let k = bound (spelled t.value.0) _ form t.next in
-    let r = bound (spelled t.value.1) _ form k.next in
-    let c = bound (spelled t.value.2) _ form r.next in
-    let small_k = bound (small k.value) _ form c.next in
-    let small_r = bound (small r.value) _ form small_k.next in
-    let small_c =
-    bound (small c.value)
-    (λ x. Ok (says.Stage (record { width = small_k.value; parities = small_r.value; copies = x }))) form
-    small_r.next in
-    let is : says.Stage (record {
-      width =
-          small_k.value;
-      parities = small_r.value;
-      copies = small_c.value;
-    }) ≡ form = let n = small_c.next in cc in
-    let words : ws ≡ decimal_text small_k.value ∷ decimal_text small_r.value ∷ decimal_text small_c.value ∷ [] =
-    three_is ws t.value t.is
-    ∙ (λ i. spelled_is t.value.0 k.value k.is i ∷ spelled_is t.value.1 r.value r.is i
-    ∷ spelled_is t.value.2 c.value c.is i ∷ [])
-    ∙ (λ i. decimal_text (small_is k.value small_k.value small_k.is i) ∷ decimal_text
-    (small_is r.value small_r.value small_r.is i) ∷ decimal_text
-    (small_is c.value small_c.value small_c.is i) ∷ []) in
-    subst (IsRead names word.Stage ws) is (record {
-      word = refl;
-      text = ap (λ x. join_with_byte 32 (codes "stage" ∷ x)) words;
-      new = tt;
-      known = tt;
-    })
-
--- the content's word and what stands behind it
-record IsGiven (first : ContentWord) (ws : List (List ℕ)) (given : Content) : Type 0 where
-  word : content_word given ≡ first
-  text : join_with_byte 32 (content_text first ∷ ws) ≡ join_with_byte 32
-      (content_text (content_word given) ∷ behind_content given)
-
-text_read : (ws : List (List ℕ)) (read : Content) → text_in ws ≡ Ok read → IsGiven content.Text ws read
-text_read [] read e = absurd cc
-text_read ([] ∷ []) read e = absurd cc
-text_read ((x ∷ w) ∷ []) read e =
-    let is : given.Text (x ∷ w) ≡ read =
-    cc in subst (IsGiven content.Text ((x ∷ w) ∷ [])) is (record { word = refl; text = refl })
-text_read ([] ∷ v ∷ ws) read e =
-    let is : given.Text (join_with_byte 32 ([] ∷ v ∷ ws)) ≡ read =
-    cc in subst (IsGiven content.Text ([] ∷ v ∷ ws)) is (record { word = refl; text = refl })
-text_read ((x ∷ w) ∷ v ∷ ws) read e =
-    let is : given.Text (join_with_byte 32 ((x ∷ w) ∷ v ∷ ws)) ≡ read =
-    cc in subst (IsGiven content.Text ((x ∷ w) ∷ v ∷ ws)) is (record { word = refl; text = refl })
-
-hex_read : (ws : List (List ℕ)) (read : Content) → hex_in ws ≡ Ok read → IsGiven content.Hex ws read
-hex_read ws read e =
-    let a = bound (one_word ws) _ read e in
-    let b = bound (ok_or (hex_of a.value) kind.Number) (λ bytes. Ok (given.Hex bytes)) read a.next in
-    let is : given.Hex b.value ≡ read = let n = b.next in cc in
-    let words =
-    one_is ws a.value a.is
-    ∙ ap (λ w. w ∷ []) (hex_text-from a.value b.value (some_is (hex_of a.value) kind.Number b.value b.is)) in
-    subst (IsGiven content.Hex ws) is (record {
-      word = refl;
-      text = ap (λ x. join_with_byte 32 (codes "hex" ∷ x)) words;
-    })
-
-pattern_read : (ws : List (List ℕ)) (read : Content) → pattern_in ws ≡ Ok read → IsGiven content.Pattern ws read
-pattern_read ws read e =
-    let t = bound (two_words ws) _ read e in
-    let n = bound (spelled t.value.0) _ read t.next in
-    let s = bound (spelled t.value.1) _ read n.next in
-    let small_n = bound (small n.value) _ read s.next in
-    let small_s = bound (small s.value) (λ x. Ok (given.Pattern small_n.value x)) read small_n.next in
-    let is : given.Pattern small_n.value small_s.value ≡ read = let x = small_s.next in cc in
-    let words : ws ≡ decimal_text small_n.value ∷ decimal_text small_s.value ∷ [] =
-    two_is ws t.value t.is
-    ∙ (λ i. spelled_is t.value.0 n.value n.is i ∷ spelled_is t.value.1 s.value s.is i ∷ [])
-    ∙ (λ i. decimal_text (small_is n.value small_n.value small_n.is i) ∷ decimal_text
-    (small_is s.value small_s.value small_s.is i) ∷ []) in
-    subst (IsGiven content.Pattern ws) is (record {
-      word = refl;
-      text = ap (λ x. join_with_byte 32 (codes "pattern" ∷ x)) words;
-    })
-
-content_read : (first : ContentWord) (ws : List (List ℕ)) (read : Content) → content_in first ws ≡ Ok read
-    → IsGiven first ws read
-content_read content.Empty ws read e =
-    let a = bound (no_words ws) (λ _. Ok given.Empty) read e in
-    let is : given.Empty ≡ read = let n = a.next in cc in
-    subst (IsGiven content.Empty ws) is (record {
-      word = refl;
-      text = ap (λ x. join_with_byte 32 (codes "empty" ∷ x)) (none_is ws a.value a.is);
-    })
-content_read content.Text ws read e = text_read ws read e
-content_read content.Hex ws read e = hex_read ws read e
-content_read content.Pattern ws read e = pattern_read ws read e
-
-file_read : (so : SoFar) (ws : List (List ℕ)) (form : Form) → file_form so ws ≡ Ok form
-    → IsRead (names_in so.script.files) word.File ws form
-file_read so [] form e = absurd cc
-file_read so (name ∷ []) form e = absurd cc
-file_read so (name ∷ w ∷ ws) form e =
-    let a = bound (ok_or (content_word_of w) kind.Unknown) _ form e in
-    let b = bound (content_in a.value ws) _ form a.next in
-    let c = bound (within (file_limits so name b.value)) _ form b.next in
-    let d = bound (refuse (has_name (names_in so.script.files) name) kind.Twice)
-    (λ _. Ok (says.File (record { name = name; content = b.value }))) form c.next in
-    let is : says.File (record { name = name; content = b.value }) ≡ form = let n = d.next in cc in
-    let spelling = content_is w a.value (some_is (content_word_of w) kind.Unknown a.value a.is) in
-    let read = content_read a.value ws b.value b.is in
-    subst (IsRead (names_in so.script.files) word.File (name ∷ w ∷ ws)) is (record {
-      word = refl;
-      text = ap (λ x. codes "file" ++ 32 ∷ (name ++ 32 ∷ x)) (ap (λ x. join_with_byte 32 (x ∷ ws)) spelling
-          ∙ read.text);
-      new = not_refused (has_name (names_in so.script.files) name) kind.Twice d.value d.is;
-      known = tt;
-    })
-
--- ---- commands
-
-operand_read : (so : SoFar) (ws : List (List ℕ)) (n : ℕ) → file_operand so ws ≡ Ok n
-    → (ws ≡ name_at (names_in so.script.files) n ∷ []) × (n < length (names_in so.script.files))
-operand_read so ws n e =
-    let a = bound (one_word ws) _ n e in
-    let b = bound (command_fits so)
-    (λ _. ok_or (file_number (names_in so.script.files) a.value) kind.NoFile) n a.next in
-    let found =
-    file_is (names_in so.script.files) a.value n
-    (some_is (file_number (names_in so.script.files) a.value) kind.NoFile n b.next) in
-    (one_is ws a.value a.is ∙ ap (λ w. w ∷ []) (sym found.0), found.1)
-
-server_read : (so : SoFar) (ws : List (List ℕ)) (n : ℕ) → server_operand so ws ≡ Ok n → ws ≡ decimal_text n ∷ []
-server_read so ws n e =
-    let a = bound (one_word ws) _ n e in
-    let b = bound (number_in a.value) _ n a.next in
-    let c = bound (command_fits so) _ n b.next in
-    let d = bound (refuse (lacks_server so b.value) kind.NoServer) (λ _. Ok b.value) n c.next in
-    let is : b.value ≡ n = let x = d.next in cc in
-    one_is ws a.value a.is ∙ ap (λ w. w ∷ []) (number_is a.value b.value b.is ∙ ap decimal_text is)
-
-record IsAct (names : List (List ℕ)) (v : Verb) (ws : List (List ℕ)) (act : Act) : Type 0 where
-  verb : verb_of act ≡ v
-  words : ws ≡ behind_verb names act
-  known : IfSome (file_in act) (λ file. file < length names)
-
--- a command whose one operand is a file
-on_file : (so : SoFar) (v : Verb) (ws : List (List ℕ)) (make : ℕ → Act) (read : Act)
-    → ((n : ℕ) → verb_of (make n) ≡ v)
-    → ((n : ℕ) → behind_verb (names_in so.script.files) (make n) ≡ name_at (names_in so.script.files) n ∷ [])
-    → ((n : ℕ) → file_in (make n) ≡ Some n)
-    → (file_operand so ws >>= λ file. Ok (make file)) ≡ Ok read
-    → IsAct (names_in so.script.files) v ws read
-on_file so v ws make read verb words file e =
-    let a = bound (file_operand so ws) (λ file. Ok (make file)) read e in
-    let is : make a.value ≡ read = let n = a.next in cc in
-    let of = operand_read so ws a.value a.is in
-    subst (IsAct (names_in so.script.files) v ws) is (record {
-      verb = verb a.value;
-      words = of.0 ∙ sym (words a.value);
-      known = subst (λ o. IfSome o (λ n. n < length (names_in so.script.files))) (sym (file a.value)) of.1;
-    })
-
-act_read : (so : SoFar) (v : Verb) (ws : List (List ℕ)) (read : Act) → act_in so v ws ≡ Ok read
-    → IsAct (names_in so.script.files) v ws read
-act_read so verb.Create ws read e =
-    on_file so verb.Create ws act.Create read (λ n. refl) (λ n. refl) (λ n. refl) e
-act_read so verb.Read ws read e =
-    on_file so verb.Read ws (λ n. act.Read n no_servers) read (λ n. refl) (λ n. refl) (λ n. refl) e
-act_read so verb.Hold ws read e = on_file so verb.Hold ws act.Hold read (λ n. refl) (λ n. refl) (λ n. refl) e
-act_read so verb.Release ws read e =
-    on_file so verb.Release ws act.Release read (λ n. refl) (λ n. refl) (λ n. refl) e
-act_read so verb.Remove ws read e = on_file so verb.Remove ws act.Remove read (λ n. refl) (λ n. refl) (λ n. refl) e
-act_read so verb.Lose ws read e =
-    let a = bound (server_operand so ws) (λ server. Ok (act.Lose server)) read e in
-    let is : act.Lose a.value ≡ read = let n = a.next in cc in
-    subst (IsAct (names_in so.script.files) verb.Lose ws) is (record {
-      verb = refl;
-      words = server_read so ws a.value a.is;
-      known = tt;
-    })
-
-command_read : (so : SoFar) (v : Verb) (ws : List (List ℕ)) (form : Form) → form_in so (word.Command v) ws ≡ Ok form
-    → IsRead (names_in so.script.files) (word.Command v) ws form
-command_read so v ws form e =
-    let a = bound (act_in so v ws) (λ act. Ok (says.Command act)) form e in
-    let is : says.Command a.value ≡ form = let n = a.next in cc in
-    let read = act_read so v ws a.value a.is in
-    subst (IsRead (names_in so.script.files) (word.Command v) ws) is (record {
-      word = ap word.Command read.verb;
-      text = (λ i. join_with_byte 32 (verb_text (sym read.verb i) ∷ read.words i));
-      new = tt;
-      known = read.known;
-    })
+use Rattle.mf_lines.specs.LineTexts.{line_text}
+use Rattle.mf_lines.specs.LineTexts.{Alike}
+use Rattle.mf_lines.proofs.LineWordLemmas.{bound, some_is, not_refused, word_is, NewName, KnowsFile, bare_read}
+use Rattle.mf_lines.proofs.LineWordLemmas.{servers_read, chunk_read, points_read, stage_read, file_read, dump_read}
+use Rattle.mf_lines.proofs.CommandLemmas.{then, AreFit, fit_words, clean_joined, words_alone, IsRead, as_it_is}
+use Rattle.mf_lines.proofs.CommandLemmas.{command_read}
 
 -- ---- any line
 
-no_morph : (last : LineWord) → may_follow last word.Morph ≡ false
+pub no_morph : (last : LineWord) → may_follow last word.Morph ≡ false
 unfolding may_follow
 no_morph word.Morph = refl
 no_morph last = refl
 
-form_read : (so : SoFar) (last first : LineWord) (ws : List (List ℕ)) (form : Form) → may_follow last first ≡ true
-    → form_in so first ws ≡ Ok form → IsRead (names_in so.script.files) first ws form
-form_read so last word.Morph ws form follows e = absurd (let no = sym (no_morph last) ∙ follows in cc)
-form_read so last word.Servers ws form follows e = servers_read (names_in so.script.files) ws form e
-form_read so last word.Chunk ws form follows e = chunk_read (names_in so.script.files) ws form e
-form_read so last word.Points ws form follows e = points_read (names_in so.script.files) ws form e
-form_read so last word.Stage ws form follows e = stage_read (names_in so.script.files) ws form e
-form_read so last word.File ws form follows e = file_read so ws form e
-form_read so last word.Phase ws form follows e =
+-- a command stands behind a line that stands behind the line of the servers
+knows_command : (last : LineWord) (v : Verb) → may_follow last (word.Command v) ≡ true
+    → knows_servers (Some last) ≡ true
+unfolding may_follow
+knows_command word.Morph v follows = absurd cc
+knows_command last v follows = refl
+
+form_read : (so : SoFar) (last first : LineWord) (ws : List (List ℕ)) (form : Form) → so.last ≡ Some last
+    → may_follow last first ≡ true → form_in so first ws ≡ Ok form → IsRead so first ws form
+form_read so last word.Morph ws form was follows e = absurd (let no = sym (no_morph last) ∙ follows in cc)
+form_read so last word.Servers ws form was follows e =
+    as_it_is so word.Servers ws form e (servers_read (names_in so.script.files) ws form e)
+form_read so last word.Chunk ws form was follows e =
+    as_it_is so word.Chunk ws form e (chunk_read (names_in so.script.files) ws form e)
+form_read so last word.Points ws form was follows e =
+    as_it_is so word.Points ws form e (points_read (names_in so.script.files) ws form e)
+form_read so last word.Stage ws form was follows e =
+    as_it_is so word.Stage ws form e (stage_read (names_in so.script.files) ws form e)
+form_read so last word.File ws form was follows e = as_it_is so word.File ws form e (file_read so ws form e)
+form_read so last word.Phase ws form was follows e =
     let a = bound (no_words ws) _ form e in
     let b = bound (within ((leb 64 (length so.script.items), limit.Phases) ∷ [])) (λ _. Ok says.Phase) form a.next in
-    bare_read (names_in so.script.files) word.Phase ws a.value says.Phase form a.is (let n =
-    b.next in cc) refl refl tt tt
-form_read so last word.Client ws form follows e =
+    as_it_is so word.Phase ws form e
+    (bare_read (names_in so.script.files) word.Phase ws a.value says.Phase form a.is (let n =
+    b.next in cc) refl refl tt tt)
+form_read so last word.Client ws form was follows e =
     let a = bound (refuse (leb 1 (length (last_clients so.script.items))) kind.Unknown) _ form e in
     let b = bound (no_words ws) (λ _. Ok says.Client) form a.next in
-    bare_read (names_in so.script.files) word.Client ws b.value says.Client form b.is (let n =
-    b.next in cc) refl refl tt tt
-form_read so last (word.Command v) ws form follows e = command_read so v ws form e
-form_read so last word.End ws form follows e =
+    as_it_is so word.Client ws form e
+    (bare_read (names_in so.script.files) word.Client ws b.value says.Client form b.is (let n =
+    b.next in cc) refl refl tt tt)
+form_read so last (word.Command v) ws form was follows e =
+    command_read so v ws form (ap knows_servers was ∙ knows_command last v follows) e
+form_read so last word.Dump ws form was follows e = as_it_is so word.Dump ws form e (dump_read so ws form e)
+form_read so last word.End ws form was follows e =
     let a = bound (no_words ws) (λ _. Ok says.End) form e in
-    bare_read (names_in so.script.files) word.End ws a.value says.End form a.is (let n = a.next in cc) refl refl tt tt
+    as_it_is so word.End ws form e
+    (bare_read (names_in so.script.files) word.End ws a.value says.End form a.is (let n = a.next in cc) refl refl tt tt)
 
--- What is known of a line that has a form: it is clean, and the form's text; it stands first, or behind a line that it
--- may follow; its file's name is new, or its command's file is there.
+-- What is known of a line that has a form: it is clean; it stands first, or behind a line that it may follow; its
+-- file's name is new, or its command's file is there. Where the script has at most 128 servers, it is the form's text,
+-- but for the order of a list of servers, and that text has the same form.
 pub record LineIs (so : SoFar) (line : List ℕ) (form : Form) : Type 0 where
   pub clean : is_clean line ≡ true
-  pub text : line ≡ line_text (names_in so.script.files) form
   pub place : ((so.last ≡ None) × (form ≡ says.Morph))
       ⊎ ((last : LineWord) × (so.last ≡ Some last) × (may_follow last (first_word form) ≡ true))
   pub new : NewName (names_in so.script.files) form
   pub known : KnowsFile (names_in so.script.files) form
+  pub again : form_at so (line_text (names_in so.script.files) form) ≡ Ok form
+  pub alike : so.script.servers ≤ 128 → Alike line (line_text (names_in so.script.files) form)
 
-later_is : (so : SoFar) (last : LineWord) (line : List ℕ) (ws : List (List ℕ)) (form : Form) → is_clean line ≡ true
-    → so.last ≡ Some last → join_with_byte 32 ws ≡ line → later_form so last ws ≡ Ok form → LineIs so line form
-unfolding line_text
-later_is so last line [] form clean was joined e = absurd cc
-later_is so last line (w ∷ ws) form clean was joined e =
-    let a = bound (ok_or (word_of w) kind.Unknown) _ form e in
-    let b = bound (form_in so a.value ws) _ form a.next in
-    let c = bound (refuse (not (may_follow last a.value)) kind.Order) (λ _. Ok b.value) form b.next in
-    let is : b.value ≡ form = let n = c.next in cc in
-    let follows =
-    not-false (may_follow last a.value) (not_refused (not (may_follow last a.value)) kind.Order c.value c.is) in
-    let read = form_read so last a.value ws b.value follows b.is in
-    subst (LineIs so line) is (record {
-      clean = clean;
-      text = sym joined
-          ∙ ap (λ x. join_with_byte 32 (x ∷ ws)) (word_is w a.value (some_is (word_of w) kind.Unknown a.value a.is))
-          ∙ read.text;
-      place = inr (last, was, ap (may_follow last) read.word ∙ follows);
-      new = read.new;
-      known = read.known;
-    })
+-- where a line reads as a form
+module _ (so : SoFar) (last : LineWord) (was : so.last ≡ Some last) where
+  again_later : (first : LineWord) (ws : List (List ℕ)) (form : Form) → word_of (word_text first) ≡ Some first
+      → form_in so first ws ≡ Ok form → may_follow last first ≡ true → AreFit (word_text first ∷ ws)
+      → form_at so (join_with_byte 32 (word_text first ∷ ws)) ≡ Ok form
+  unfolding form_at
+  again_later first ws form spelled e follows fit =
+      let line : List ℕ = join_with_byte 32 (word_text first ∷ ws) in
+      cond-true _ _ _ (clean_joined (word_text first) ws fit) ∙ ap (λ l. placed l so line) was
+      ∙ ap (later_form so last) (words_of-join (word_text first) ws fit.0.0 (words_alone ws fit.1))
+      ∙ then (ok_or (word_of (word_text first)) kind.Unknown) _ first form (ap (λ o. ok_or o kind.Unknown) spelled)
+      (then (form_in so first ws) _ form form e
+      (then (refuse (not (may_follow last first)) kind.Order) (λ _. Ok form) tt form
+      (cond-false _ _ _ (ap not follows)) refl))
+
+  later_is : (line : List ℕ) (ws : List (List ℕ)) (form : Form) → is_clean line ≡ true → words_of line ≡ ws
+      → join_with_byte 32 ws ≡ line → later_form so last ws ≡ Ok form → LineIs so line form
+  unfolding line_text
+  later_is line [] form clean words joined e = absurd cc
+  later_is line (w ∷ ws) form clean words joined e =
+      let a = bound (ok_or (word_of w) kind.Unknown) _ form e in
+      let b = bound (form_in so a.value ws) _ form a.next in
+      let c = bound (refuse (not (may_follow last a.value)) kind.Order) (λ _. Ok b.value) form b.next in
+      let is : b.value ≡ form = let n = c.next in cc in
+      let follows =
+      not-false (may_follow last a.value) (not_refused (not (may_follow last a.value)) kind.Order c.value c.is) in
+      let found = some_is (word_of w) kind.Unknown a.value a.is in
+      let spelling = word_is w a.value found in
+      let read = form_read so last a.value ws b.value was follows b.is in
+      let text : join_with_byte 32 (word_text a.value ∷ read.printed) ≡ line_text (names_in so.script.files) b.value =
+      read.says.text in
+      let fit = fit_words w ws (ap is_clean joined ∙ clean) (subst AreWordsAlone words (words_of-words line)) in
+      subst (LineIs so line) is (record {
+        clean = clean;
+        place = inr (last, was, ap (may_follow last) read.says.word ∙ follows);
+        new = read.says.new;
+        known = read.says.known;
+        again = ap (form_at so) (sym text)
+            ∙ again_later a.value read.printed b.value (ap word_of (sym spelling) ∙ found) read.again follows
+            (subst (λ v. (is_word v ≡ true) × (is_clean v ≡ true)) spelling fit.0, read.fit fit.1);
+        alike = λ few. subst (λ l. Alike line l) text
+            (subst (λ l. Alike l (join_with_byte 32 (word_text a.value ∷ read.printed)))
+            (ap (λ v. join_with_byte 32 (v ∷ ws)) (sym spelling) ∙ joined)
+            (read.alike few));
+      })
 
 first_is : (so : SoFar) (line : List ℕ) (form : Form) → is_clean line ≡ true → so.last ≡ None
     → first_form line ≡ Ok form → LineIs so line form
-unfolding line_text
+unfolding line_text form_at
 first_is so line form clean was e =
     elim (cases_Bool (bytes_eq line (codes "morph 1"))) [
       | inl holds ↦
           let at = sym (cond-true _ _ _ holds) ∙ e in
           let is : says.Morph ≡ form = cc in
+          let same = (bytes_eq-Decides line (codes "morph 1")).0 holds in
           subst (LineIs so line) is (record {
-            clean =
-                clean;
-            text =
-                (bytes_eq-Decides line (codes "morph 1")).0 holds;
+            clean = clean;
             place = inl (was, refl);
             new = tt;
             known = tt;
+            again = ap (form_at so) (sym same)
+                ∙ cond-true _ _ _ clean ∙ ap (λ l. placed l so line) was ∙ cond-true _ _ _ holds;
+            alike = λ few. inl same;
           })
       | inr fails ↦ let at = sym (cond-false _ _ _ fails) ∙ e in absurd cc
     ]
@@ -518,7 +161,7 @@ placed_is : (last : Option LineWord) (so : SoFar) (line : List ℕ) (form : Form
     → so.last ≡ last → placed last so line ≡ Ok form → LineIs so line form
 placed_is None so line form clean was e = first_is so line form clean was e
 placed_is (Some last) so line form clean was e =
-    later_is so last line (words_of line) form clean was (join-words_of line) e
+    later_is so last was line (words_of line) form clean refl (join-words_of line) e
 
 pub line_is : (so : SoFar) (line : List ℕ) (form : Form) → form_at so line ≡ Ok form → LineIs so line form
 unfolding form_at

@@ -2,10 +2,11 @@
 use Rattle.std.proofs.Common.{◌≡◌, ℕ, zero, suc, ◌+◌, ◌-◌, ◌<◌, ◌≤◌, Bool, true, false, ◌||◌, not, cond, eqb, ltb}
 use Rattle.std.proofs.Common.{leb, List, [], ◌∷◌, ◌++◌, length, take, drop, map, get_or, Option, Some, None, Result}
 use Rattle.std.proofs.Common.{Ok, Err, Bor, refl, sym, ap, ◌∙◌, inl, inr, arith}
-use Rattle.std.specs.List.{list_any, find, position, position_or_len, join_with_byte, slice_get}
-use Rattle.std.proofs.lemmas.Bool.{cases_Bool, cond-false, eqb-true, le-leb, or_parts, ltb-false}
-use Rattle.std.specs.Prelude.{option_to_list, is_some}
-use Rattle.std.proofs.lemmas.List.{append_assoc, nil_from_length, length-map, take_rest}
+use Rattle.std.specs.List.{list_any, find, flat_map, position, position_or_len, join_with_byte, slice_get}
+use Rattle.std.proofs.lemmas.Bool.{cases_Bool, cond-true, cond-false, eqb-true, le-leb, or_parts, ltb-false}
+use Rattle.std.specs.Prelude.{codes, option_to_list, is_some, OnOk}
+use Rattle.std.specs.Str.{bytes_eq}
+use Rattle.std.proofs.lemmas.List.{append_assoc, append-nil, nil_from_length, length-map, take_rest}
 use Rattle.mf_text.specs.Words.{words_of}
 use Rattle.mf_text.proofs.LineLemmas.{slice_split_some, slice_split_whole}
 use Rattle.mf_text.proofs.WordLemmas.{join-words_of, words_of-some}
@@ -16,8 +17,9 @@ use Rattle.mf_lines.specs.declared.parts.Client.{Client}
 use Rattle.mf_lines.specs.declared.parts.Item.{Item}
 use Rattle.mf_lines.specs.declared.parts.Item.TheVariants as item
 use Rattle.mf_lines.specs.Meaning.{on_last, last_clients}
+use Rattle.mf_lines.specs.LineTexts.{spaced}
 use Rattle.mf_lines.specs.Words.{◌>>=◌, behind, no_words, spelled}
-use Rattle.mf_lines.specs.Lines.{is_above, numbers_in, points_in, points_form, text_in}
+use Rattle.mf_lines.specs.Lines.{is_above, numbers_in, points_in, points_form, text_in, away_words}
 
 -- ---- tests on a mapped list
 
@@ -179,3 +181,40 @@ pub points_are : (words : List (List ℕ)) (ns : List ℕ) → (words ≡ [] →
     → points_in ns ≡ points_form words
 points_are [] ns some e = absurd (some refl)
 points_are (w ∷ ws) ns some e = sym (ap (λ r. r >>= points_in) e)
+
+-- ---- a name, and a list behind `without`
+
+pub away_alone : (ws : List (List ℕ)) (name w : List ℕ) → ws ≡ name ∷ w ∷ [] → away_words ws ≡ Err kind.Arity
+away_alone ws name w is = ap away_words is
+
+pub away_other : (ws : List (List ℕ)) (name w : List ℕ) (servers : List (List ℕ)) → ws ≡ name ∷ w ∷ servers
+    → bytes_eq w (codes "without") ≡ false → away_words ws ≡ Err kind.Arity
+away_other ws name w [] is other = ap away_words is
+away_other ws name w (s ∷ servers) is other =
+    ap away_words is
+    ∙ ap (λ r. r >>= λ _. Ok (name, s ∷ servers)) (cond-true _ _ _ (ap not other))
+
+pub away_listed : (ws : List (List ℕ)) (name w : List ℕ) (servers : List (List ℕ)) → ws ≡ name ∷ w ∷ servers
+    → bytes_eq w (codes "without") ≡ true → (servers ≡ [] → ⊥) → away_words ws ≡ Ok (name, servers)
+away_listed ws name w [] is without some = absurd (some refl)
+away_listed ws name w (s ∷ servers) is without some =
+    ap away_words is
+    ∙ ap (λ r. r >>= λ _. Ok (name, s ∷ servers)) (cond-false _ _ _ (ap not without))
+
+-- ---- words behind spaces
+
+pub spaced_join : (w : List ℕ) (ws : List (List ℕ)) → join_with_byte 32 (w ∷ ws) ≡ w ++ flat_map spaced ws
+spaced_join w [] = sym (append-nil w)
+spaced_join w (v ∷ ws) = ap (λ r. w ++ 32 ∷ r) (spaced_join v ws)
+
+-- a word and further words behind it, written one after the other
+pub joined_text : (old mid out w : List ℕ) (ws : List (List ℕ)) → mid ≡ old ++ w → out ≡ mid ++ flat_map spaced ws
+    → out ≡ old ++ join_with_byte 32 (w ∷ ws)
+joined_text old mid out w ws first rest =
+    rest ∙ ap (λ m. m ++ flat_map spaced ws) first ∙ append_assoc old w (flat_map spaced ws)
+    ∙ ap (λ r. old ++ r) (sym (spaced_join w ws))
+
+-- what holds of a call that gave no error, and what follows from it
+pub on_ok-map : {T E : Type 0} (r : Result T E) (P Q : Type 0) → (P → Q) → OnOk r P → OnOk r Q
+on_ok-map (Ok x) P Q f h = f h
+on_ok-map (Err e) P Q f h = h

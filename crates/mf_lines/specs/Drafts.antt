@@ -21,6 +21,7 @@ script_in draft =
       files = draft.files.items;
       file_families = draft.file_families.items;
       items = draft.items.items;
+      dumps = draft.dumps.items;
     }
 
 -- what they add up to

@@ -10,7 +10,8 @@ use Rattle.std.specs.Str.{bytes_eq}
 use Rattle.mf_text.specs.Lines.{is_clean}
 use Rattle.mf_text.specs.Words.{words_of}
 use Rattle.mf_text.specs.Hex.{hex_of}
-use Rattle.mf_places.specs.Servers.{no_servers}
+use Rattle.mf_places.specs.declared.servers.Servers.{Servers}
+use Rattle.mf_places.specs.Servers.{set_of}
 use Rattle.mf_lines.specs.declared.parts.Kind.{Kind}
 use Rattle.mf_lines.specs.declared.parts.Kind.TheVariants as kind
 use Rattle.mf_lines.specs.declared.parts.LimitName.{LimitName}
@@ -202,9 +203,15 @@ file_operand so words = do
   _ ← command_fits so
   ok_or (file_number (names_in so.script.files) name) kind.NoFile
 
--- the script has no server of this number; before line 2, which says how many there are, none is missed
+-- whether the line that says how many servers there are stands before, where the last line begins with this word
+abbrev pub knows_servers : Option LineWord → Bool
+knows_servers None = false
+knows_servers (Some word.Morph) = false
+knows_servers (Some last) = true
+
+-- the script has no server of this number; before it says how many there are, none is missed
 abbrev pub lacks_server : SoFar → ℕ → Bool
-lacks_server so server = nat_le 2 so.lines && nat_le so.script.servers server
+lacks_server so server = knows_servers so.last && nat_le so.script.servers server
 
 -- a command's operand: a server
 abbrev pub server_operand : SoFar → List (List ℕ) → Result ℕ Kind
@@ -215,14 +222,56 @@ server_operand so words = do
   _ ← refuse (lacks_server so server) kind.NoServer
   Ok server
 
+-- a number of the list stands twice in it
+abbrev pub has_twice : List ℕ → Bool
+has_twice [] = false
+has_twice (n ∷ numbers) = list_any (λ other. n == other) numbers || has_twice numbers
+
+-- a file's name, and the words of one server or more behind `without`, if that stands there
+abbrev pub away_words : List (List ℕ) → Result (List ℕ × List (List ℕ)) Kind
+away_words (name ∷ []) = Ok (name, [])
+away_words (name ∷ word ∷ server ∷ servers) =
+    refuse (not (bytes_eq word (codes "without"))) kind.Arity >>= λ _. Ok (name, server ∷ servers)
+away_words words = Err kind.Arity
+
+-- the different servers that these words spell
+abbrev pub servers_in : SoFar → List (List ℕ) → Result (List ℕ) Kind
+servers_in so words = do
+  servers ← numbers_in words
+  _ ← within (
+      (list_any (is_above 4294967295) servers, limit.Number)
+      ∷ (nat_le 1024 so.commands, limit.Commands)
+      ∷ [])
+  _ ← refuse (has_twice servers) kind.Twice
+  Ok servers
+
+-- a command's operands: a file, and the servers that it can't reach
+abbrev pub away_operands : SoFar → List (List ℕ) → Result (ℕ × Servers) Kind
+away_operands so words = do
+  named ← away_words words
+  servers ← servers_in so named.1
+  file ← ok_or (file_number (names_in so.script.files) named.0) kind.NoFile
+  _ ← refuse (list_any (lacks_server so) servers) kind.NoServer
+  Ok (file, set_of servers)
+
 -- what a command does: its word, and its operands
 abbrev pub act_in : SoFar → Verb → List (List ℕ) → Result Act Kind
 act_in so verb.Create words = file_operand so words >>= λ file. Ok (act.Create file)
-act_in so verb.Read words = file_operand so words >>= λ file. Ok (act.Read file no_servers)
+act_in so verb.Read words = away_operands so words >>= λ two. Ok (act.Read two.0 two.1)
 act_in so verb.Hold words = file_operand so words >>= λ file. Ok (act.Hold file)
 act_in so verb.Release words = file_operand so words >>= λ file. Ok (act.Release file)
 act_in so verb.Remove words = file_operand so words >>= λ file. Ok (act.Remove file)
 act_in so verb.Lose words = server_operand so words >>= λ server. Ok (act.Lose server)
+
+-- ---- dumps
+
+-- `dump NAME`
+abbrev pub dump_form : SoFar → List (List ℕ) → Result Form Kind
+dump_form so words = do
+  name ← one_word words
+  file ← ok_or (file_number (names_in so.script.files) name) kind.NoFile
+  _ ← refuse (list_any (λ other. file == other) so.script.dumps) kind.Twice
+  Ok (says.Dump file)
 
 -- ---- any line
 
@@ -237,6 +286,7 @@ form_in so word.File words = file_form so words
 form_in so word.Phase words = phase_form so words
 form_in so word.Client words = client_form so words
 form_in so (word.Command verb) words = act_in so verb words >>= λ act. Ok (says.Command act)
+form_in so word.Dump words = dump_form so words
 form_in so word.End words = no_words words >>= λ _. Ok says.End
 
 -- what may come behind a client line, and behind a command
@@ -244,6 +294,7 @@ abbrev pub may_follow_command : LineWord → Bool
 may_follow_command (word.Command verb) = true
 may_follow_command word.Client = true
 may_follow_command word.Phase = true
+may_follow_command word.Dump = true
 may_follow_command word.End = true
 may_follow_command next = false
 
@@ -257,10 +308,13 @@ may_follow word.Stage word.Stage = true
 may_follow word.Stage word.File = true
 may_follow word.File word.File = true
 may_follow word.File word.Phase = true
+may_follow word.File word.Dump = true
 may_follow word.File word.End = true
 may_follow word.Phase word.Client = true
 may_follow word.Client next = may_follow_command next
 may_follow (word.Command verb) next = may_follow_command next
+may_follow word.Dump word.Dump = true
+may_follow word.Dump word.End = true
 may_follow last next = false
 
 -- what the first line says

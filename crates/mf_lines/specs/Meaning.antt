@@ -47,6 +47,7 @@ first_word (says.File file) = word.File
 first_word says.Phase = word.Phase
 first_word says.Client = word.Client
 first_word (says.Command act) = word.Command (verb_of act)
+first_word (says.Dump file) = word.Dump
 first_word says.End = word.End
 
 -- ---- the script
@@ -58,7 +59,7 @@ pub record Block : Type 0 where
   pub stages : List Stage
 
 -- What a script says: its servers and chunk size, its families, its files, for each file the number of its family,
--- and what stands between the files and the end.
+-- what stands behind the files, and the files of its dump lines.
 pub record Script : Type 0 where
   pub servers : ℕ
   pub chunk : ℕ
@@ -66,6 +67,7 @@ pub record Script : Type 0 where
   pub files : List FileLine
   pub file_families : List ℕ
   pub items : List Item
+  pub dumps : List ℕ
 
 -- the one family, of which nothing is said yet
 abbrev pub no_block : Block
@@ -73,7 +75,16 @@ no_block = record { name = codes "main"; points = []; stages = [] }
 
 -- before the first line
 abbrev pub no_script : Script
-no_script = record { servers = 0; chunk = 0; families = no_block ∷ []; files = []; file_families = []; items = [] }
+no_script =
+    record {
+      servers = 0;
+      chunk = 0;
+      families = no_block ∷ [];
+      files = [];
+      file_families = [];
+      items = [];
+      dumps = [];
+    }
 
 -- the list with its last element changed
 abbrev pub on_last : {X : Type 0} → (X → X) → List X → List X
@@ -111,6 +122,7 @@ with_form s n (says.File file) = record s { files = s.files ++ file ∷ []; file
 with_form s n says.Phase = record s { items = s.items ++ item.Phase [] ∷ [] }
 with_form s n says.Client = record s { items = on_last with_client s.items }
 with_form s n (says.Command act) = record s { items = on_last (with_command (record { line = n; act = act })) s.items }
+with_form s n (says.Dump file) = record s { dumps = s.dumps ++ file ∷ [] }
 with_form s n form = s
 
 -- what is said of the first family, which is the only one

@@ -38,6 +38,7 @@ word_text word.File = codes "file"
 word_text word.Phase = codes "phase"
 word_text word.Client = codes "client"
 word_text (word.Command verb) = verb_text verb
+word_text word.Dump = codes "dump"
 word_text word.End = codes "end"
 
 -- all line words
@@ -45,7 +46,7 @@ abbrev pub line_words : List LineWord
 line_words =
     word.Morph ∷ word.Servers ∷ word.Chunk ∷ word.Points ∷ word.Stage ∷ word.File ∷ word.Phase ∷ word.Client
     ∷ word.Command verb.Create ∷ word.Command verb.Read ∷ word.Command verb.Hold ∷ word.Command verb.Release
-    ∷ word.Command verb.Remove ∷ word.Command verb.Lose ∷ word.End ∷ []
+    ∷ word.Command verb.Remove ∷ word.Command verb.Lose ∷ word.Dump ∷ word.End ∷ []
 
 -- the line word that these bytes spell
 unfoldable pub word_of : List ℕ → Option LineWord

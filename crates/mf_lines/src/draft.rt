@@ -2,6 +2,7 @@
 
 ghost use Rattle.std.specs.Prelude.{◌≡◌, ◌<◌, ◌≤◌, ◌^◌, ◌+◌, ◌∷◌, ◌++◌, [], OnOk, length, nat_le};
 ghost use Rattle.std.specs.Prelude.{◌≢◌, ◌==◌, if◌then◌else◌, IfOk, IfErr, Err};
+ghost use Rattle.std.specs.List.{list_any};
 ghost use Rattle.mf_lines.specs.Meaning.{on_last, with_client, client_with, with_command};
 ghost use Rattle.mf_lines.specs.Meaning.{with_line, so_before};
 ghost use Rattle.mf_lines.specs.Meaning.{names_in, last_clients};
@@ -21,7 +22,7 @@ const FIRST_FAMILY: u32 = 0;
 /// What the lines so far add up to: how many they are, the word of the last one, and what they say
 /// of the script. Numbers of which no line has told are 0, and so is `stage_line`, the number of
 /// the first stage's line, before it. `names` has the names of the files, and `file_families` the
-/// number of each file's family.
+/// number of each file's family; `dumps` has the numbers of the files of the dump lines.
 #[derive(Drop)]
 pub struct Draft {
     pub lines: u32,
@@ -36,6 +37,7 @@ pub struct Draft {
     pub files: Vec<FileLine>,
     pub file_families: Vec<u32>,
     pub items: Vec<Item>,
+    pub dumps: Vec<u32>,
 }
 
 // Adds a client to the last phase, if there is one.
@@ -101,6 +103,7 @@ impl Draft {
             files: Vec::new(alloc),
             file_families: Vec::new(alloc),
             items: Vec::new(alloc),
+            dumps: Vec::new(alloc),
         }
     }
 
@@ -131,6 +134,13 @@ impl Draft {
             Some(item) => !item.clients().is_empty(),
             None => false,
         }
+    }
+
+    /// Whether an earlier line dumps this file.
+    pub fn has_dump(&self, file: u32) -> bool
+        ensures { result ≡ list_any (λ other. file == other) self.now.dumps.items }
+    {
+        self.dumps.iter().any(|other| file == *other)
     }
 
     // Adds a line of this form.
@@ -165,6 +175,7 @@ impl Draft {
                 let line = self.lines;
                 add_command(&mut self.items, Command { line, act })?;
             }
+            Form::Dump(file) => self.dumps.push(file)?,
         }
         Ok(())
     }

@@ -1,6 +1,6 @@
 //! What a line says, or its fault.
 
-ghost use Rattle.std.specs.Prelude.{◌≡◌, ◌≤◌, length, map, false, IfOk};
+ghost use Rattle.std.specs.Prelude.{◌≡◌, ◌≤◌, length, map, false, IfOk, IfErr, Ok, Err};
 ghost use Rattle.std.specs.List.{list_any};
 ghost use Rattle.mf_text.specs.Lines.{is_clean};
 ghost use Rattle.mf_lines.specs.Words.{behind};
@@ -8,8 +8,10 @@ ghost use Rattle.mf_lines.specs.Meaning.{verb_of, file_in, first_word};
 ghost use Rattle.mf_lines.specs.Lines.{Says, SaysList, within, is_above, numbers_in, may_follow};
 ghost use Rattle.mf_lines.specs.Lines.{servers_form, chunk_form, points_in, points_form};
 ghost use Rattle.mf_lines.specs.Lines.{stage_form};
-ghost use Rattle.mf_lines.specs.Lines.{phase_form, client_form, file_operand, act_in, form_in};
-ghost use Rattle.mf_lines.specs.Lines.{command_fits, lacks_server, server_operand};
+ghost use Rattle.mf_lines.specs.Lines.{phase_form, client_form, file_operand, act_in, dump_form};
+ghost use Rattle.mf_lines.specs.Lines.{form_in};
+ghost use Rattle.mf_lines.specs.Lines.{command_fits, knows_servers, lacks_server, server_operand};
+ghost use Rattle.mf_lines.specs.Lines.{has_twice, away_words, servers_in, away_operands};
 ghost use Rattle.mf_lines.specs.Lines.{first_form, form_at};
 ghost use Rattle.mf_lines.specs.Drafts.{so_in, IsDraft};
 
@@ -17,9 +19,10 @@ use crate::draft::Draft;
 use crate::files::file_line;
 use crate::parts::{Act, Bytes, FileLine, Kind, LimitName};
 use crate::words::{
-    LineWord, Verb, end_words, last_three_words, last_word, line_word, number, small, spelled,
-    split_word,
+    LineWord, Verb, end_words, last_three_words, last_word, line_word, next_word, number, small,
+    spelled, split_word,
 };
+use indexmap::IndexSet;
 use mf_places::Servers;
 use mf_shape::Stage;
 use std::alloc::{AllocError, Global};
@@ -48,6 +51,7 @@ pub enum Form {
     Phase,
     Client,
     Command(Act),
+    Dump(u32),
     End,
 }
 
@@ -96,6 +100,7 @@ impl Form {
             Form::Phase => LineWord::Phase,
             Form::Client => LineWord::Client,
             Form::Command(act) => LineWord::Command(act.verb()),
+            Form::Dump(_) => LineWord::Dump,
             Form::End => LineWord::End,
         }
     }
@@ -235,11 +240,22 @@ fn file_operand(draft: &Draft, rest: Option<&[u8]>) -> Result<u32, Kind>
     draft.file_number(name).ok_or(Kind::NoFile)
 }
 
-// Whether no server has this number. Before line 2, which says how many there are, none is missed.
+// Whether the line that says how many servers there are stands before, where the last line begins
+// with this word.
+fn knows_servers(last: Option<LineWord>) -> bool
+    ensures { result ≡ knows_servers last }
+{
+    match last {
+        None | Some(LineWord::Morph) => false,
+        Some(_) => true,
+    }
+}
+
+// Whether no server has this number. Before the script says how many there are, none is missed.
 fn lacks_server(draft: &Draft, server: u32) -> bool
     ensures { result ≡ lacks_server (so_in draft.now) server }
 {
-    draft.lines >= 2 && server >= draft.servers
+    knows_servers(draft.last) && server >= draft.servers
 }
 
 // A command's operand: a server.
@@ -254,22 +270,117 @@ fn server_operand(draft: &Draft, rest: Option<&[u8]>) -> Result<u32, Kind>
     Ok(server)
 }
 
-// What a command does, by its word and what stands behind it.
-fn act_of(draft: &Draft, verb: Verb, rest: Option<&[u8]>) -> Result<Act, Kind>
+// Whether a number stands twice in the list.
+fn has_twice(alloc: Global, numbers: &[u64]) -> Result<bool, AllocError>
+    ensures { IfOk result (λ twice. twice ≡ has_twice numbers.now) }
+{
+    let mut seen = IndexSet::new(alloc);
+    for n in numbers {
+        if seen.contains(n) {
+            return Ok(true);
+        }
+        seen.insert(*n)?;
+    }
+    Ok(false)
+}
+
+// Numbers that are at most the greatest u32.
+fn small_of(alloc: Global, numbers: &[u64]) -> Result<Vec<u32>, AllocError>
+    requires { list_any (is_above 4294967295) numbers.now ≡ false }
+    ensures { IfOk result (λ v. v.items ≡ numbers.now) }
+{
+    let mut small = Vec::new(alloc);
+    for n in numbers {
+        small.push(*n as u32)?;
+    }
+    Ok(small)
+}
+
+// A file's name, and the words behind `without`, if that stands there.
+fn away_words(rest: Option<&[u8]>) -> Result<(&[u8], Option<&[u8]>), Kind>
+    ensures some { IfOk result
+        (λ r. away_words (behind rest.entry) ≡ Ok (r.0.now, behind r.1)) }
+    ensures none { IfErr result (λ kind. away_words (behind rest.entry) ≡ Err kind) }
+{
+    let (name, rest) = next_word(rest)?;
+    let Some(list) = rest else {
+        return Ok((name, None));
+    };
+    let (word, rest) = split_word(list);
+    if rest.is_none() {
+        return Err(Kind::Arity);
+    }
+    if word != b"without".as_slice() {
+        return Err(Kind::Arity);
+    }
+    Ok((name, rest))
+}
+
+// The different servers that the words spell.
+fn servers_of(alloc: Global, draft: &Draft, rest: Option<&[u8]>) -> Result<Vec<u32>, Kind>
+    ensures { SaysList result (servers_in (so_in draft.now) (behind rest.entry)) }
+{
+    let servers = numbers_of(alloc, rest)?;
+    within(&[
+        (any_above(&servers, MAX_NUMBER), LimitName::Number),
+        (draft.commands >= MAX_COMMANDS, LimitName::Commands),
+    ])?;
+    if has_twice(alloc, &servers)? {
+        return Err(Kind::Twice);
+    }
+    Ok(small_of(alloc, &servers)?)
+}
+
+// Whether one of these servers isn't there.
+fn lacks_any(draft: &Draft, servers: &[u32]) -> bool
+    ensures { result ≡ list_any (lacks_server (so_in draft.now)) servers.now }
+{
+    servers.iter().any(|server| lacks_server(draft, *server))
+}
+
+// A command's operands: a file, and the servers that it can't reach.
+fn away_operands(alloc: Global, draft: &Draft, rest: Option<&[u8]>) -> Result<(u32, Servers), Kind>
     requires { IsDraft draft.now }
-    ensures { result ≡ act_in (so_in draft.now) verb (behind rest.entry) }
+    ensures { Says result (away_operands (so_in draft.now) (behind rest.entry)) }
+{
+    let (name, rest) = away_words(rest)?;
+    let servers = servers_of(alloc, draft, rest)?;
+    let file = draft.file_number(name).ok_or(Kind::NoFile)?;
+    if lacks_any(draft, &servers) {
+        return Err(Kind::NoServer);
+    }
+    Ok((file, Servers::of(&servers)))
+}
+
+// What a command does, by its word and what stands behind it.
+fn act_of(alloc: Global, draft: &Draft, verb: Verb, rest: Option<&[u8]>) -> Result<Act, Kind>
+    requires { IsDraft draft.now }
+    ensures { Says result (act_in (so_in draft.now) verb (behind rest.entry)) }
 {
     match verb {
         Verb::Create => Ok(Act::Create(file_operand(draft, rest)?)),
-        Verb::Read => Ok(Act::Read {
-            file: file_operand(draft, rest)?,
-            away: Servers::none(),
-        }),
+        Verb::Read => {
+            let (file, away) = away_operands(alloc, draft, rest)?;
+            Ok(Act::Read { file, away })
+        }
         Verb::Hold => Ok(Act::Hold(file_operand(draft, rest)?)),
         Verb::Release => Ok(Act::Release(file_operand(draft, rest)?)),
         Verb::Remove => Ok(Act::Remove(file_operand(draft, rest)?)),
         Verb::Lose => Ok(Act::Lose(server_operand(draft, rest)?)),
     }
+}
+
+// The file of a dump line.
+fn dump_line(draft: &Draft, rest: Option<&[u8]>) -> Result<Form, Kind>
+    requires { IsDraft draft.now }
+    ensures { result ≡ dump_form (so_in draft.now) (behind rest.entry) }
+{
+    let word = last_word(rest)?;
+    let file = draft.file_number(word).ok_or(Kind::NoFile)?;
+    if draft.has_dump(file) {
+        return Err(Kind::Twice);
+    }
+    Ok(Form::Dump(file))
 }
 
 // What a line says, by its first word and what stands behind it.
@@ -289,7 +400,8 @@ fn form_of(alloc: Global, draft: &Draft, word: LineWord, rest: Option<&[u8]>) ->
         LineWord::File => file_line(alloc, draft, rest),
         LineWord::Phase => phase_line(draft, rest),
         LineWord::Client => client_line(draft, rest),
-        LineWord::Command(verb) => Ok(Form::Command(act_of(draft, verb, rest)?)),
+        LineWord::Command(verb) => Ok(Form::Command(act_of(alloc, draft, verb, rest)?)),
+        LineWord::Dump => dump_line(draft, rest),
         LineWord::End => {
             end_words(rest)?;
             Ok(Form::End)
@@ -308,12 +420,20 @@ fn may_follow(last: LineWord, next: LineWord) -> bool
         LineWord::Chunk => matches!(next, LineWord::Points),
         LineWord::Points => matches!(next, LineWord::Stage),
         LineWord::Stage => matches!(next, LineWord::Stage | LineWord::File),
-        LineWord::File => matches!(next, LineWord::File | LineWord::Phase | LineWord::End),
+        LineWord::File => matches!(
+            next,
+            LineWord::File | LineWord::Phase | LineWord::Dump | LineWord::End
+        ),
         LineWord::Phase => matches!(next, LineWord::Client),
         LineWord::Client | LineWord::Command(_) => matches!(
             next,
-            LineWord::Command(_) | LineWord::Client | LineWord::Phase | LineWord::End
+            LineWord::Command(_)
+                | LineWord::Client
+                | LineWord::Phase
+                | LineWord::Dump
+                | LineWord::End
         ),
+        LineWord::Dump => matches!(next, LineWord::Dump | LineWord::End),
         LineWord::End => false,
     }
 }

@@ -144,7 +144,10 @@ pub struct FileLine {
 #[derive(Clone, Copy, Debug, PartialEq, Eq)]
 pub enum Act {
     Create(u32),
-    Read { file: u32, away: Servers },
+    Read {
+        file: u32,
+        away: Servers,
+    },
     Hold(u32),
     Release(u32),
     Remove(u32),

@@ -52,10 +52,11 @@ pub enum LineWord {
     Phase,
     Client,
     Command(Verb),
+    Dump,
     End,
 }
 
-const LINE_WORDS: [LineWord; 15] = [
+const LINE_WORDS: [LineWord; 16] = [
     LineWord::Morph,
     LineWord::Servers,
     LineWord::Chunk,
@@ -70,6 +71,7 @@ const LINE_WORDS: [LineWord; 15] = [
     LineWord::Command(Verb::Release),
     LineWord::Command(Verb::Remove),
     LineWord::Command(Verb::Lose),
+    LineWord::Dump,
     LineWord::End,
 ];
 
@@ -88,6 +90,7 @@ impl LineWord {
             LineWord::Phase => b"phase",
             LineWord::Client => b"client",
             LineWord::Command(verb) => verb.text(),
+            LineWord::Dump => b"dump",
             LineWord::End => b"end",
         }
     }

@@ -15,9 +15,9 @@ use Rattle.mf_lines.specs.declared.parts.FileLine.{FileLine}
 use Rattle.mf_lines.specs.declared.forms.Form.{Form}
 use Rattle.mf_lines.specs.declared.forms.Form.TheVariants as says
 use Rattle.mf_lines.specs.Meaning.{Block, Script, SoFar, first_word, on_last, with_points, with_stage, with_client}
-use Rattle.mf_lines.specs.Meaning.{client_with, with_command, with_form, no_block, no_script, so_before, with_line}
+use Rattle.mf_lines.specs.Meaning.{client_with, with_command, with_form, no_block, so_before, with_line}
 use Rattle.mf_lines.specs.Meaning.{so_with, so_of}
-use Rattle.mf_lines.specs.Lines.{may_follow, may_follow_command, form_at}
+use Rattle.mf_lines.specs.Lines.{may_follow, may_follow_command}
 use Rattle.mf_lines.proofs.ListLemmas.{on_last-push}
 use Rattle.mf_lines.proofs.FormLemmas.{LineIs, line_is}
 use Rattle.mf_script.specs.Texts.{MakeForms, HasForms}
@@ -98,6 +98,7 @@ record Bare (s : Script) : Type 0 where
   families : s.families ≡ no_block ∷ []
   files : s.files ≡ []
   items : s.items ≡ []
+  dumps : s.dumps ≡ []
 
 -- one family, and nothing behind it
 record Unfiled (s : Script) : Type 0 where
@@ -105,6 +106,7 @@ record Unfiled (s : Script) : Type 0 where
   families : s.families ≡ block ∷ []
   files : s.files ≡ []
   items : s.items ≡ []
+  dumps : s.dumps ≡ []
 
 filed : Script → List Form
 filed s = store_forms s ++ map says.File s.files
@@ -113,6 +115,9 @@ body : Script → List Form
 unfolding filed
 body s = filed s ++ flat_map item_forms s.items
 
+whole : Script → List Form
+whole s = body s ++ map says.Dump s.dumps
+
 Built : Option LineWord → Script → List Form → Type 0
 Built None s forms = (forms ≡ []) × Bare s
 Built (Some word.Morph) s forms = (forms ≡ says.Morph ∷ []) × Bare s
@@ -120,11 +125,12 @@ Built (Some word.Servers) s forms = (forms ≡ says.Morph ∷ says.Servers s.ser
 Built (Some word.Chunk) s forms = (forms ≡ says.Morph ∷ says.Servers s.servers ∷ says.Chunk s.chunk ∷ []) × Bare s
 Built (Some word.Points) s forms = (forms ≡ store_forms s) × Unfiled s
 Built (Some word.Stage) s forms = (forms ≡ store_forms s) × Unfiled s
-Built (Some word.File) s forms = (forms ≡ filed s) × (s.items ≡ [])
-Built (Some word.Phase) s forms = (forms ≡ body s) × HasPhase s.items
-Built (Some word.Client) s forms = (forms ≡ body s) × HasClient s.items
-Built (Some (word.Command verb)) s forms = (forms ≡ body s) × HasClient s.items
-Built (Some word.End) s forms = forms ≡ body s ++ says.End ∷ []
+Built (Some word.File) s forms = (forms ≡ filed s) × (s.items ≡ []) × (s.dumps ≡ [])
+Built (Some word.Phase) s forms = (forms ≡ body s) × HasPhase s.items × (s.dumps ≡ [])
+Built (Some word.Client) s forms = (forms ≡ body s) × HasClient s.items × (s.dumps ≡ [])
+Built (Some (word.Command verb)) s forms = (forms ≡ body s) × HasClient s.items × (s.dumps ≡ [])
+Built (Some word.Dump) s forms = forms ≡ whole s
+Built (Some word.End) s forms = forms ≡ whole s ++ says.End ∷ []
 
 push : (a b : List Form) (f : Form) → a ≡ b → a ++ f ∷ [] ≡ b ++ f ∷ []
 push a b f e = ap (λ r. r ++ f ∷ []) e
@@ -141,33 +147,48 @@ body_filed : (s : Script) → s.items ≡ [] → filed s ≡ body s
 unfolding body
 body_filed s e = sym (ap (λ is. filed s ++ flat_map item_forms is) e ∙ append-nil (filed s))
 
-add_phase : (s : Script) (n : ℕ) (forms : List Form) → forms ≡ body s
+-- where no dump stands yet
+body_whole : (s : Script) → s.dumps ≡ [] → body s ≡ whole s
+unfolding whole
+body_whole s e = sym (ap (λ ds. body s ++ map says.Dump ds) e ∙ append-nil (body s))
+
+add_phase : (s : Script) (n : ℕ) (forms : List Form) → forms ≡ body s → s.dumps ≡ []
     → Built (Some word.Phase) (with_form s n says.Phase) (forms ++ says.Phase ∷ [])
 unfolding Built body filed
-add_phase s n forms e = (
+add_phase s n forms e bare = (
   push forms (body s) says.Phase e
       ∙ longer s (s.items ++ item.Phase [] ∷ []) says.Phase (flat_push item_forms s.items (item.Phase [])),
   record { before = s.items; clients = []; is = refl },
+  bare,
 )
 
-add_client : (s : Script) (n : ℕ) (forms : List Form) → forms ≡ body s → HasPhase s.items
+add_client : (s : Script) (n : ℕ) (forms : List Form) → forms ≡ body s → HasPhase s.items → s.dumps ≡ []
     → Built (Some word.Client) (with_form s n says.Client) (forms ++ says.Client ∷ [])
 unfolding Built body filed
-add_client s n forms e h =
+add_client s n forms e h bare =
     let new = client_added s.items h in
-    (push forms (body s) says.Client e ∙ longer s (on_last with_client s.items) says.Client new.0, new.1)
+    (push forms (body s) says.Client e ∙ longer s (on_last with_client s.items) says.Client new.0, new.1, bare)
 
-add_command : (s : Script) (n : ℕ) (act : Act) (forms : List Form) → forms ≡ body s → HasClient s.items
+add_command : (s : Script) (n : ℕ) (act : Act) (forms : List Form) → forms ≡ body s → HasClient s.items → s.dumps ≡ []
     → (forms ++ says.Command act ∷ [] ≡ body (with_form s n (says.Command act)))
-    × HasClient (with_form s n (says.Command act)).items
+    × HasClient (with_form s n (says.Command act)).items × ((with_form s n (says.Command act)).dumps ≡ [])
 unfolding body filed
-add_command s n act forms e h =
+add_command s n act forms e h bare =
     let command : Command = record { line = n; act = act } in
     let new = command_added s.items command h in (
       push forms (body s) (says.Command act) e
           ∙ longer s (on_last (with_command command) s.items) (says.Command act) new.0,
       new.1,
+      bare,
     )
+
+-- one dump more behind the body and the dumps
+add_dump : (s : Script) (n file : ℕ) (forms : List Form) → forms ≡ whole s
+    → Built (Some word.Dump) (with_form s n (says.Dump file)) (forms ++ says.Dump file ∷ [])
+unfolding Built whole body filed
+add_dump s n file forms e =
+    push forms (whole s) (says.Dump file) e ∙ append_assoc (body s) (map says.Dump s.dumps) (says.Dump file ∷ [])
+    ∙ ap (λ r. body s ++ r) (sym (map_push says.Dump s.dumps file))
 
 -- the lines of the store, where the one family is this
 one_block : (s : Script) (block : Block) → s.families ≡ block ∷ []
@@ -186,7 +207,13 @@ add_points s forms n points e bare =
     ap (on_last (with_points points)) bare.families in (
       push forms _ (says.Points points) e
           ∙ sym (one_block (with_form s n (says.Points points)) (with_points points no_block) one),
-      record { block = with_points points no_block; families = one; files = bare.files; items = bare.items },
+      record {
+        block = with_points points no_block;
+        families = one;
+        files = bare.files;
+        items = bare.items;
+        dumps = bare.dumps;
+      },
     )
 
 add_stage : (s : Script) (forms : List Form) (n : ℕ) (stage : Stage) → forms ≡ store_forms s → Unfiled s
@@ -199,16 +226,23 @@ add_stage s forms n stage e h =
           ∙ ap (λ r. says.Morph ∷ says.Servers s.servers ∷ says.Chunk s.chunk ∷ says.Points h.block.points ∷ r)
           (sym (map_push says.Stage h.block.stages stage))
           ∙ sym (one_block (with_form s n (says.Stage stage)) (with_stage stage h.block) one),
-      record { block = with_stage stage h.block; families = one; files = h.files; items = h.items },
+      record {
+        block = with_stage stage h.block;
+        families = one;
+        files = h.files;
+        items = h.items;
+        dumps = h.dumps;
+      },
     )
 
-add_file : (s : Script) (forms : List Form) (n : ℕ) (file : FileLine) → forms ≡ filed s → s.items ≡ []
+add_file : (s : Script) (forms : List Form) (n : ℕ) (file : FileLine) → forms ≡ filed s → s.items ≡ [] → s.dumps ≡ []
     → Built (Some word.File) (with_form s n (says.File file)) (forms ++ says.File file ∷ [])
 unfolding Built filed
-add_file s forms n file e bare = (
+add_file s forms n file e bare none = (
   push forms (filed s) (says.File file) e ∙ append_assoc (store_forms s) (map says.File s.files) (says.File file ∷ [])
       ∙ ap (λ x. store_forms s ++ x) (sym (map_push says.File s.files file)),
   bare,
+  none,
 )
 
 filed_bare : (s : Script) → s.files ≡ [] → store_forms s ≡ filed s
@@ -217,33 +251,45 @@ filed_bare s e = sym (ap (λ fs. store_forms s ++ map says.File fs) e ∙ append
 
 -- behind a client or a command
 in_client : (s : Script) (n : ℕ) (forms : List Form) (form : Form) → may_follow_command (first_word form) ≡ true
-    → forms ≡ body s → HasClient s.items → Built (Some (first_word form)) (with_form s n form) (forms ++ form ∷ [])
+    → forms ≡ body s → HasClient s.items → s.dumps ≡ []
+    → Built (Some (first_word form)) (with_form s n form) (forms ++ form ∷ [])
 unfolding Built
-in_client s n forms says.Client e is h =
-    add_client s n forms is (record { before = h.before; clients = h.clients ++ h.client ∷ []; is = h.is })
-in_client s n forms says.Phase e is h = add_phase s n forms is
-in_client s n forms (says.Command act) e is h = add_command s n act forms is h
-in_client s n forms says.End e is h = push forms (body s) says.End is
-in_client s n forms form e is h = absurd cc
+in_client s n forms says.Client e is h bare =
+    add_client s n forms is (record { before = h.before; clients = h.clients ++ h.client ∷ []; is = h.is }) bare
+in_client s n forms says.Phase e is h bare = add_phase s n forms is bare
+in_client s n forms (says.Command act) e is h bare = add_command s n act forms is h bare
+in_client s n forms (says.Dump file) e is h bare = add_dump s n file forms (is ∙ body_whole s bare)
+in_client s n forms says.End e is h bare = push forms (whole s) says.End (is ∙ body_whole s bare)
+in_client s n forms form e is h bare = absurd cc
 
 built_more : (last : LineWord) (s : Script) (n : ℕ) (forms : List Form) (form : Form)
     → may_follow last (first_word form) ≡ true → Built (Some last) s forms
     → Built (Some (first_word form)) (with_form s n form) (forms ++ form ∷ [])
 unfolding may_follow Built
-built_more word.Morph s n forms (says.Servers x) e h =
-    (push forms _ (says.Servers x) h.0, record { families = h.1.families; files = h.1.files; items = h.1.items })
-built_more word.Servers s n forms (says.Chunk x) e h =
-    (push forms _ (says.Chunk x) h.0, record { families = h.1.families; files = h.1.files; items = h.1.items })
+built_more word.Morph s n forms (says.Servers x) e h = (
+  push forms _ (says.Servers x) h.0,
+  record { families = h.1.families; files = h.1.files; items = h.1.items; dumps = h.1.dumps },
+)
+built_more word.Servers s n forms (says.Chunk x) e h = (
+  push forms _ (says.Chunk x) h.0,
+  record { families = h.1.families; files = h.1.files; items = h.1.items; dumps = h.1.dumps },
+)
 built_more word.Chunk s n forms (says.Points x) e h = add_points s forms n x h.0 h.1
 built_more word.Points s n forms (says.Stage stage) e h = add_stage s forms n stage h.0 h.1
 built_more word.Stage s n forms (says.Stage stage) e h = add_stage s forms n stage h.0 h.1
-built_more word.Stage s n forms (says.File file) e h = add_file s forms n file (h.0 ∙ filed_bare s h.1.files) h.1.items
-built_more word.File s n forms (says.File file) e h = add_file s forms n file h.0 h.1
-built_more word.File s n forms says.Phase e h = add_phase s n forms (h.0 ∙ body_filed s h.1)
-built_more word.File s n forms says.End e h = push forms (body s) says.End (h.0 ∙ body_filed s h.1)
-built_more word.Phase s n forms says.Client e h = add_client s n forms h.0 h.1
-built_more word.Client s n forms form e h = in_client s n forms form e h.0 h.1
-built_more (word.Command verb) s n forms form e h = in_client s n forms form e h.0 h.1
+built_more word.Stage s n forms (says.File file) e h =
+    add_file s forms n file (h.0 ∙ filed_bare s h.1.files) h.1.items h.1.dumps
+built_more word.File s n forms (says.File file) e h = add_file s forms n file h.0 h.1 h.2
+built_more word.File s n forms says.Phase e h = add_phase s n forms (h.0 ∙ body_filed s h.1) h.2
+built_more word.File s n forms (says.Dump file) e h =
+    add_dump s n file forms (h.0 ∙ body_filed s h.1 ∙ body_whole s h.2)
+built_more word.File s n forms says.End e h =
+    push forms (whole s) says.End (h.0 ∙ body_filed s h.1 ∙ body_whole s h.2)
+built_more word.Phase s n forms says.Client e h = add_client s n forms h.0 h.1 h.2
+built_more word.Client s n forms form e h = in_client s n forms form e h.0 h.1 h.2
+built_more (word.Command verb) s n forms form e h = in_client s n forms form e h.0 h.1 h.2
+built_more word.Dump s n forms (says.Dump file) e h = add_dump s n file forms h
+built_more word.Dump s n forms says.End e h = push forms (whole s) says.End h
 built_more last s n forms form e h = absurd cc
 
 built_line : (so : SoFar) (line : List ℕ) (form : Form) (before : List Form) → LineIs so line form
@@ -273,7 +319,15 @@ built_lines so (line ∷ lines) (form ∷ forms) before made h =
 
 -- a script that was read has the forms that it was read from
 pub forms_are : (text : List ℕ) (forms : List Form) → HasForms text forms → script_forms (so_of forms).script ≡ forms
-unfolding Built body filed script_forms so_of
+unfolding Built whole body filed script_forms so_of
 forms_are text forms has =
     sym (subst (λ l. Built l (so_of forms).script forms) has.ended
-    (built_lines so_before _ forms [] has.lines (refl, record { families = refl; files = refl; items = refl })))
+    (built_lines so_before _ forms [] has.lines (
+      refl,
+      record {
+        families = refl;
+        files = refl;
+        items = refl;
+        dumps = refl;
+      },
+    )))

@@ -1,19 +1,19 @@
 -- A text has one answer: one script, or one fault.
-use Rattle.std.proofs.Common.{◌≡◌, ◌≢◌, ℕ, zero, suc, ◌+◌, ◌-◌, ◌<◌, ◌≤◌, ◌^◌, min, List, [], ◌∷◌, get_or, length}
-use Rattle.std.proofs.Common.{Some, Ok, Err, refl, sym, ap, ◌∙◌, subst, arith, inl, inr, ◌⊎◌, length-take-le}
+use Rattle.std.proofs.Common.{◌≡◌, ◌≢◌, ℕ, zero, suc, ◌+◌, ◌-◌, ◌<◌, ◌≤◌, List, [], ◌∷◌, get_or, length}
+use Rattle.std.proofs.Common.{Ok, refl, sym, ap, ◌∙◌, subst, arith, inl, inr, ◌⊎◌, length-take-le}
 use Rattle.std.proofs.lemmas.Bool.{cases_lt}
 use Rattle.std.proofs.Math.Nat.{eq-or-lt_of_le}
 use Rattle.mf_shape.specs.declared.Stage.{Stage}
 use Rattle.mf_shape.specs.declared.ShapeFault.{ShapeFault}
 use Rattle.mf_shape.specs.declared.ShapeFault.TheVariants as shape
-use Rattle.mf_shape.specs.Stages.{stage_at, width_at, parities_at}
+use Rattle.mf_shape.specs.Stages.{stage_at, parities_at}
 use Rattle.mf_shape.specs.Chain.{Chain, IsShape, IsChain, IsStep}
 use Rattle.mf_shape.specs.Faults as shapes
 use Rattle.mf_shape.specs.Faults.{Comes}
 use Rattle.mf_check.specs.declared.FamilyFault.{FamilyFault}
 use Rattle.mf_check.specs.declared.FamilyFault.TheVariants as family
 use Rattle.mf_check.specs.Sets as sets
-use Rattle.mf_check.specs.Families.{IsFamily, IsCode, IsStageDecodable, ArePoints, stage_points}
+use Rattle.mf_check.specs.Families.{IsFamily, IsCode, IsStageDecodable, stage_points}
 use Rattle.mf_check.specs.Faults.{IsFault as IsFamilyFaultOf, IsUndecodable, IsFirstPair}
 use Rattle.mf_check.proofs.Stages.{parities_le}
 use Rattle.mf_lines.specs.declared.parts.Kind.{Kind}
@@ -22,7 +22,7 @@ use Rattle.mf_lines.specs.declared.forms.Form.{Form}
 use Rattle.mf_lines.specs.Meaning.{Script, SoFar, no_block, so_of, main_of}
 use Rattle.mf_script.specs.Texts.{HasForms, IsLineFault}
 use Rattle.mf_script.specs.Scripts.{IsScript}
-use Rattle.mf_script.specs.Faults.{main_code, IsShapeFault, IsFamilyFault, IsFault, IsScriptFault}
+use Rattle.mf_script.specs.Faults.{main_code, IsFault}
 use Rattle.mf_script.specs.Laws.{bare, OneAnswer}
 use Rattle.mf_script.proofs.PassLemmas.{line_in, kind_in, read_text-have, read_text-fault}
 use Rattle.mf_script.proofs.ScriptLemmas.{HasOne-script}

@@ -1,13 +1,13 @@
 -- The loop over the lines of a text.
-use Rattle.std.proofs.Common.{◌≡◌, ◌≢◌, ℕ, ◌+◌, ◌-◌, ◌<◌, ◌≤◌, ◌^◌, List, length, take, drop, Option, Some, None, Err}
-use Rattle.std.proofs.Common.{refl, sym, ap, ◌∙◌, subst, arith}
+use Rattle.std.proofs.Common.{◌≡◌, ◌≢◌, ℕ, ◌+◌, ◌-◌, ◌<◌, ◌≤◌, List, length, take, drop, Option, Err}
+use Rattle.std.proofs.Common.{sym, ap, ◌∙◌, subst, arith}
 use Rattle.std.proofs.lemmas.List.{length-drop, nil_from_length, take_rest}
 use Rattle.mf_text.specs.Lines.{lines_of, IsFirstLine}
 use Rattle.mf_text.proofs.LineLemmas.{lines_of-nil}
 use Rattle.mf_lines.specs.declared.parts.Kind.{Kind}
 use Rattle.mf_lines.specs.declared.parts.Kind.TheVariants as kind
 use Rattle.mf_lines.specs.declared.draft.Draft.{Draft}
-use Rattle.mf_lines.specs.Meaning.{SoFar, so_before, with_line}
+use Rattle.mf_lines.specs.Meaning.{SoFar, so_before}
 use Rattle.mf_lines.specs.Lines.{form_at}
 use Rattle.mf_lines.specs.Drafts.{so_in, IsDraft, Adds}
 use Rattle.mf_script.specs.Texts.{end_fault}

@@ -1,6 +1,6 @@
 -- What is read of a text: its script, or the fault of its stages or points; and what a script's parts are.
 use Rattle.std.proofs.Common.{◌≡◌, ◌≢◌, ℕ, zero, suc, get_or, ◌+◌, ◌<◌, ◌≤◌, List, [], ◌∷◌, ◌++◌, map, length, Result}
-use Rattle.std.proofs.Common.{Ok, Err, refl, sym, ap, ◌∙◌, subst, arith, inl, inr, ◌⊎◌}
+use Rattle.std.proofs.Common.{Ok, Err, refl, sym, ap, ◌∙◌, subst, arith, inl, inr}
 use Rattle.std.specs.Prelude.{codes, IfOk, All}
 use Rattle.std.proofs.lemmas.List.{map_push, length-map}
 use Rattle.std.proofs.lemmas.List.Elements.{All-nil, All-cons}
@@ -22,16 +22,16 @@ use Rattle.mf_lines.specs.declared.draft.Draft.{Draft}
 use Rattle.mf_lines.specs.declared.forms.Form.{Form}
 use Rattle.mf_lines.specs.declared.forms.Form.TheVariants as says
 use Rattle.mf_lines.specs.Meaning.{Block, Script, SoFar, on_last, with_points, with_stage, with_form, no_block}
-use Rattle.mf_lines.specs.Meaning.{no_script, so_before, with_line, so_with, so_of, main_of}
+use Rattle.mf_lines.specs.Meaning.{so_before, with_line, so_with, so_of, main_of}
 use Rattle.mf_lines.specs.Drafts.{script_in, so_in}
 use Rattle.mf_script.specs.declared.script.NamedFamily.{NamedFamily}
 use Rattle.mf_script.specs.Passes.{read_text}
 use Rattle.mf_script.specs.Texts.{HasForms}
 use Rattle.mf_script.specs.Scripts.{block_of, code_of, script_with, IsScript, IsKept}
 use Rattle.mf_script.specs.Faults.{main_code, shape_kind, family_kind, IsFault, IsScriptFault}
-use Rattle.mf_script.specs.Printing.{script_forms, script_text}
+use Rattle.mf_script.specs.Printing.{script_forms, script_text, AreAlike}
 use Rattle.mf_script.proofs.PassLemmas.{HasSo, so_read, fault_read}
-use Rattle.mf_script.proofs.RoundTrip.{same_lines, no_longer, again}
+use Rattle.mf_script.proofs.RoundTrip.{alike_lines, no_longer, again}
 
 -- ---- faults
 
@@ -120,6 +120,7 @@ module _ (text : List ℕ) (draft : Draft) (read : read_text text ≡ Ok (so_in 
     abbrev read_script : Script
     read_script =
         script_with draft.servers draft.chunk families draft.files.items draft.file_families.items draft.items.items
+        draft.dumps.items
 
     blocks : map block_of families ≡ main_of (script_in draft) ∷ []
     blocks = ap (map block_of) one
@@ -134,6 +135,7 @@ module _ (text : List ℕ) (draft : Draft) (read : read_text text ≡ Ok (so_in 
           files = draft.files.items;
           file_families = draft.file_families.items;
           items = draft.items.items;
+          dumps = draft.dumps.items;
         })
         ∙ same
 
@@ -211,10 +213,11 @@ zeros [] i = refl
 zeros (f ∷ files) zero = refl
 zeros (f ∷ files) (suc i) = zeros files i
 
-module _ (servers chunk : ℕ) (files : List FileLine) (file_families : List ℕ) (items : List Item) where
+module _ (servers chunk : ℕ) (files : List FileLine) (file_families : List ℕ) (items : List Item)
+    (dumps : List ℕ) where
   -- what a script says that has these families
   abbrev of : List NamedFamily → Script
-  of families = script_with servers chunk families files file_families items
+  of families = script_with servers chunk families files file_families items dumps
 
   pub has_main : (families : List NamedFamily) → HasOne (of families) → 0 < length families
   has_main [] one = absurd (let none = one.families in cc)
@@ -254,23 +257,34 @@ if_ok-map (Err e) P Q f h = h
 
 -- the text of a script doesn't say the numbers of families
 pub printed_text : (servers chunk : ℕ) (families : List NamedFamily) (files : List FileLine) (file_families : List ℕ)
-    (items : List Item)
-    → script_text (script_with servers chunk families files [] items) ≡ script_text
-    (script_with servers chunk families files file_families items)
+    (items : List Item) (dumps : List ℕ)
+    → script_text (script_with servers chunk families files [] items dumps) ≡ script_text
+    (script_with servers chunk families files file_families items dumps)
 unfolding script_text script_forms
-printed_text servers chunk families files file_families items = refl
+printed_text servers chunk families files file_families items dumps = refl
+
+-- a script has at most 128 servers
+few_servers : (text : List ℕ) (s : Script) (is : IsScript text s) → (so_of is.forms).script.servers ≤ 128
+few_servers text s is =
+    let one = ap length (HasOne-script text s is).families in
+    let code = is.families 0 no_block (omega arith) in
+    subst (λ (x : Script). x.servers ≤ 128) is.says code.shape_ok.servers.1
 
 pub printed : (text : List ℕ) (s : Script) → IsScript text s → IsScript (script_text s) s
 printed text s is = record {
   forms = is.forms;
-  lines = subst (λ x. HasForms (script_text x) is.forms) (sym is.says) (again text is.forms is.lines);
+  lines = subst (λ x. HasForms (script_text x) is.forms) (sym is.says)
+      (again text is.forms is.lines (few_servers text s is));
   says = is.says;
   families = is.families;
 }
 
-pub lines_kept : (text : List ℕ) (s : Script) → IsScript text s → lines_of text ≡ lines_of (script_text s)
+pub lines_kept : (text : List ℕ) (s : Script) → IsScript text s → AreAlike (lines_of text) (lines_of (script_text s))
 lines_kept text s is =
-    sym (subst (λ x. lines_of (script_text x) ≡ lines_of text) (sym is.says) (same_lines text is.forms is.lines))
+    subst (λ x. AreAlike (lines_of text) (lines_of (script_text x))) (sym is.says)
+    (alike_lines text is.forms is.lines (few_servers text s is))
 
 pub shortest : (text : List ℕ) (s : Script) → IsScript text s → length (script_text s) ≤ length text
-shortest text s is = subst (λ x. length (script_text x) ≤ length text) (sym is.says) (no_longer text is.forms is.lines)
+shortest text s is =
+    subst (λ x. length (script_text x) ≤ length text) (sym is.says)
+    (no_longer text is.forms is.lines (few_servers text s is))

@@ -106,35 +106,39 @@ end_text : (names : List (List ℕ)) → lines_text names (says.End ∷ []) ≡ 
 unfolding lines_text line_text
 end_text names = refl
 
-regroup : (m a b s f i e : List ℕ)
-    → m ++ ((a ++ b) ++ (((s ++ f) ++ i) ++ e)) ≡ (((((m ++ a) ++ b) ++ s) ++ f) ++ i) ++ e
-regroup m a b s f i e = sym (simp append_assoc)
+regroup : (m a b s f i d e : List ℕ)
+    → m ++ ((a ++ b) ++ ((((s ++ f) ++ i) ++ d) ++ e)) ≡ ((((((m ++ a) ++ b) ++ s) ++ f) ++ i) ++ d) ++ e
+regroup m a b s f i d e = sym (simp append_assoc)
 
 pub whole_text : (servers chunk : ℕ) (families : List NamedFamily) (files : List FileLine) (items : List Item)
-    → (((((codes "morph 1" ++ next_line [] (says.Servers servers)) ++ next_line [] (says.Chunk chunk))
+    (dumps : List ℕ)
+    → ((((((codes "morph 1" ++ next_line [] (says.Servers servers)) ++ next_line [] (says.Chunk chunk))
     ++ lines_text [] (flat_map block_forms (map block_of families)))
-    ++ lines_text [] (map says.File files)) ++ lines_text (names_in files) (flat_map item_forms items)) ++ 10
-    ∷ codes "end"
-    ≡ script_text (script_with servers chunk families files [] items)
+    ++ lines_text [] (map says.File files)) ++ lines_text (names_in files) (flat_map item_forms items))
+    ++ lines_text (names_in files) (map says.Dump dumps)) ++ 10 ∷ codes "end"
+    ≡ script_text (script_with servers chunk families files [] items dumps)
 unfolding script_text script_forms line_text
-whole_text servers chunk families files items =
+whole_text servers chunk families files items dumps =
     let names : List (List ℕ) = names_in files in
     let bs : List Form = flat_map block_forms (map block_of families) in
     let fs : List Form = map says.File files in
     let ps : List Form = flat_map item_forms items in
+    let ds : List Form = map says.Dump dumps in
     let a : List ℕ = next_line [] (says.Servers servers) in
     let b : List ℕ = next_line [] (says.Chunk chunk) in
-    let rest : lines_text names ((bs ++ fs ++ ps) ++ says.End ∷ []) ≡
-    ((lines_text [] bs ++ lines_text [] fs) ++ lines_text names ps) ++ 10 ∷ codes "end" =
-    lines_text-append names (bs ++ fs ++ ps) (says.End ∷ [])
-    ∙ (λ i. (lines_text-append names (bs ++ fs) ps
+    let rest : lines_text names ((bs ++ fs ++ ps ++ ds) ++ says.End ∷ []) ≡
+    (((lines_text [] bs ++ lines_text [] fs) ++ lines_text names ps) ++ lines_text names ds) ++ 10 ∷ codes "end" =
+    lines_text-append names (bs ++ fs ++ ps ++ ds) (says.End ∷ [])
+    ∙ (λ i. (lines_text-append names (bs ++ fs ++ ps) ds
+    ∙ ap (λ x. x ++ lines_text names ds) (lines_text-append names (bs ++ fs) ps
     ∙ ap (λ x. x ++ lines_text names ps) (lines_text-append names bs fs
-    ∙ (λ j. blocks_text names (map block_of families) j ++ files_text names files j))) i ++ end_text names i) in
+    ∙ (λ j. blocks_text names (map block_of families) j ++ files_text names files j)))) i ++ end_text names i) in
     sym (
-    join_lines names says.Morph (says.Servers servers ∷ says.Chunk chunk ∷ ((bs ++ fs ++ ps) ++ says.End ∷ []))
-    ∙ ap (λ x. codes "morph 1" ++ x) (store_text names servers chunk ((bs ++ fs ++ ps) ++ says.End ∷ [])
+    join_lines names says.Morph (says.Servers servers ∷ says.Chunk chunk ∷ ((bs ++ fs ++ ps ++ ds) ++ says.End ∷ []))
+    ∙ ap (λ x. codes "morph 1" ++ x) (store_text names servers chunk ((bs ++ fs ++ ps ++ ds) ++ says.End ∷ [])
     ∙ ap (λ x. (a ++ b) ++ x) rest)
-    ∙ regroup (codes "morph 1") a b (lines_text [] bs) (lines_text [] fs) (lines_text names ps) (10 ∷ codes "end"))
+    ∙ regroup (codes "morph 1") a b (lines_text [] bs) (lines_text [] fs) (lines_text names ps) (lines_text names ds)
+    (10 ∷ codes "end"))
 
 -- ---- the loops
 

@@ -8,7 +8,7 @@ use Rattle.mf_lines.specs.declared.parts.Item.TheVariants as item
 use Rattle.mf_lines.specs.declared.forms.Form.{Form}
 use Rattle.mf_lines.specs.declared.forms.Form.TheVariants as says
 use Rattle.mf_lines.specs.Meaning.{Block, Script, names_in}
-use Rattle.mf_lines.specs.LineTexts.{line_text}
+use Rattle.mf_lines.specs.LineTexts.{line_text, Alike}
 
 -- ---- the forms of a script's lines
 
@@ -34,7 +34,8 @@ store_forms s = says.Morph ∷ says.Servers s.servers ∷ says.Chunk s.chunk ∷
 
 -- of the whole script
 unfoldable pub script_forms : Script → List Form
-script_forms s = store_forms s ++ map says.File s.files ++ flat_map item_forms s.items ++ says.End ∷ []
+script_forms s =
+    store_forms s ++ map says.File s.files ++ flat_map item_forms s.items ++ map says.Dump s.dumps ++ says.End ∷ []
 
 -- ---- their text
 
@@ -49,3 +50,11 @@ next_line names form = 10 ∷ line_text names form
 -- lines of these forms, each behind an LF
 unfoldable pub lines_text : List (List ℕ) → List Form → List ℕ
 lines_text names forms = flat_map (next_line names) forms
+
+-- ---- texts of one script
+
+-- the lines are the same, one by one, but for the order of servers behind `without`
+abbrev pub AreAlike : List (List ℕ) → List (List ℕ) → Type 0
+AreAlike [] [] = Unit {0}
+AreAlike (line ∷ lines) (other ∷ others) = Alike line other × AreAlike lines others
+AreAlike lines others = ⊥

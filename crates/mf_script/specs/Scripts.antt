@@ -14,8 +14,8 @@ abbrev pub block_of : NamedFamily → Block
 block_of named = record { name = named.name; points = named.family.points; stages = named.family.shape.stages }
 
 -- what a script says whose parts are these
-abbrev pub script_with : ℕ → ℕ → List NamedFamily → List FileLine → List ℕ → List Item → Script
-script_with servers chunk families files file_families items =
+abbrev pub script_with : ℕ → ℕ → List NamedFamily → List FileLine → List ℕ → List Item → List ℕ → Script
+script_with servers chunk families files file_families items dumps =
     record {
       servers = servers;
       chunk = chunk;
@@ -23,6 +23,7 @@ script_with servers chunk families files file_families items =
       files = files;
       file_families = file_families;
       items = items;
+      dumps = dumps;
     }
 
 -- a family of a script: its stages, over the script's servers, and its points

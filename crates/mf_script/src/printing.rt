@@ -9,11 +9,13 @@ ghost use Rattle.mf_lines.specs.Words.{word_text, content_text};
 ghost use Rattle.mf_lines.specs.Meaning.{names_in};
 ghost use Rattle.mf_lines.specs.LineTexts.{line_text};
 ghost use Rattle.mf_script.specs.Printing.{command_form, client_forms, item_forms, block_forms};
-ghost use Rattle.mf_script.specs.Printing.{next_line, lines_text, script_text};
+ghost use Rattle.mf_script.specs.Printing.{next_line, lines_text, script_text, AreAlike};
 ghost use Rattle.mf_script.specs.Scripts.{block_of, script_with, IsScript};
 
 use crate::script::{NamedFamily, Script};
-use mf_lines::{Act, Client, Command, Content, ContentWord, FileLine, Item, LineWord, push_act};
+use mf_lines::{
+    Act, Client, Command, Content, ContentWord, FileLine, Item, LineWord, name_of, push_act,
+};
 use mf_shape::Stage;
 use mf_text::{push_decimal, push_hex};
 use std::alloc::{AllocError, Global};
@@ -110,12 +112,27 @@ fn push_file(out: &mut Vec<u8>, file: &FileLine) -> Result<(), AllocError>
 
 // The line of a command.
 #[tactic(auto, using(std::proofs::lemmas::List::append_assoc))]
-fn push_command(out: &mut Vec<u8>, files: &[FileLine], act: Act) -> Result<(), AllocError>
+fn push_command(
+    alloc: Global,
+    out: &mut Vec<u8>,
+    files: &[FileLine],
+    act: Act,
+) -> Result<(), AllocError>
     ensures { OnOk result
         (out.new.items ≡ out.old.items ++ next_line (names_in files.now) (says.Command act)) }
 {
     out.push(b'\n')?;
-    push_act(out, files, act)
+    push_act(alloc, out, files, act)
+}
+
+// A dump line.
+#[tactic(auto, unfolding(mf_lines::specs::LineTexts::line_text), using(std::proofs::lemmas::List::append_assoc))]
+fn push_dump(out: &mut Vec<u8>, files: &[FileLine], file: u32) -> Result<(), AllocError>
+    ensures { OnOk result
+        (out.new.items ≡ out.old.items ++ next_line (names_in files.now) (says.Dump file)) }
+{
+    begin(out, LineWord::Dump)?;
+    push_word(out, name_of(files, file))
 }
 
 // The lines of the stages.
@@ -162,38 +179,65 @@ fn push_files(out: &mut Vec<u8>, files: &[FileLine]) -> Result<(), AllocError>
 }
 
 // The lines of a client.
-fn push_client(out: &mut Vec<u8>, files: &[FileLine], client: &Client) -> Result<(), AllocError>
+fn push_client(
+    alloc: Global,
+    out: &mut Vec<u8>,
+    files: &[FileLine],
+    client: &Client,
+) -> Result<(), AllocError>
     ensures { OnOk result
         (out.new.items ≡ out.old.items
         ++ lines_text (names_in files.now) (client_forms client.now)) }
 {
     begin(out, LineWord::Client)?;
     for command in client.commands.as_slice() {
-        push_command(out, files, command.act)?;
+        push_command(alloc, out, files, command.act)?;
     }
     Ok(())
 }
 
 // The lines of an item.
-fn push_item(out: &mut Vec<u8>, files: &[FileLine], item: &Item) -> Result<(), AllocError>
+fn push_item(
+    alloc: Global,
+    out: &mut Vec<u8>,
+    files: &[FileLine],
+    item: &Item,
+) -> Result<(), AllocError>
     ensures { OnOk result
         (out.new.items ≡ out.old.items ++ lines_text (names_in files.now) (item_forms item.now)) }
 {
     begin(out, LineWord::Phase)?;
     for client in item.clients() {
-        push_client(out, files, client)?;
+        push_client(alloc, out, files, client)?;
     }
     Ok(())
 }
 
 // The lines of the items.
-fn push_items(out: &mut Vec<u8>, files: &[FileLine], items: &[Item]) -> Result<(), AllocError>
+fn push_items(
+    alloc: Global,
+    out: &mut Vec<u8>,
+    files: &[FileLine],
+    items: &[Item],
+) -> Result<(), AllocError>
     ensures { OnOk result
         (out.new.items ≡ out.old.items
         ++ lines_text (names_in files.now) (flat_map item_forms items.now)) }
 {
     for item in items {
-        push_item(out, files, item)?;
+        push_item(alloc, out, files, item)?;
+    }
+    Ok(())
+}
+
+// The dump lines.
+fn push_dumps(out: &mut Vec<u8>, files: &[FileLine], dumps: &[u32]) -> Result<(), AllocError>
+    ensures { OnOk result
+        (out.new.items ≡ out.old.items
+        ++ lines_text (names_in files.now) (map says.Dump dumps.now)) }
+{
+    for file in dumps {
+        push_dump(out, files, *file)?;
     }
     Ok(())
 }
@@ -206,28 +250,31 @@ fn print(
     families: &[NamedFamily],
     files: &[FileLine],
     items: &[Item],
+    dumps: &[u32],
 ) -> Result<Vec<u8>, AllocError>
     ensures { IfOk result
         (λ v. v.items
-        ≡ script_text (script_with servers chunk families.now files.now [] items.now)) }
+        ≡ script_text (script_with servers chunk families.now files.now [] items.now dumps.now)) }
 {
     let mut out = Vec::from_slice(alloc, b"morph 1")?;
     push_servers(&mut out, servers)?;
     push_chunk(&mut out, chunk)?;
     push_families(&mut out, families)?;
     push_files(&mut out, files)?;
-    push_items(&mut out, files, items)?;
+    push_items(alloc, &mut out, files, items)?;
+    push_dumps(&mut out, files, dumps)?;
     begin(&mut out, LineWord::End)?;
     Ok(out)
 }
 
-/// The text of a script: each line but the last ends with LF. It is read as the same script; every
-/// text that is read so has its lines, and so none is shorter. Fails only where memory runs out.
+/// The text of a script: each line but the last ends with LF, and servers ascend behind `without`.
+/// It is read as the same script; every text that is read so has its lines, but for the order of
+/// such servers, and so none is shorter. Fails only where memory runs out.
 pub fn print_script(alloc: Global, script: &Script) -> Result<Vec<u8>, AllocError>
     ensures text { IfOk result (λ v. v.items ≡ script_text script.now) }
     ensures again { IfOk result (λ v. IsScript v.items script.now) }
-    ensures lines { IfOk result
-        (λ v. (text : List ℕ) → IsScript text script.now → lines_of text ≡ lines_of v.items) }
+    ensures lines { IfOk result (λ v. (text : List ℕ) → IsScript text script.now
+        → AreAlike (lines_of text) (lines_of v.items)) }
     ensures short { IfOk result
         (λ v. (text : List ℕ) → IsScript text script.now → length v.items ≤ length text) }
 {
@@ -238,5 +285,6 @@ pub fn print_script(alloc: Global, script: &Script) -> Result<Vec<u8>, AllocErro
         &script.families,
         &script.files,
         &script.items,
+        &script.dumps,
     )
 }

@@ -132,5 +132,6 @@ pub fn read_script(alloc: Global, text: &[u8]) -> Result<Script, ScriptFault>
         files: draft.files,
         file_families: draft.file_families,
         items: draft.items,
+        dumps: draft.dumps,
     })
 }

@@ -15,8 +15,8 @@ pub struct NamedFamily {
 }
 
 /// A script: its servers, its chunk size, its families, its files, each of which belongs to a
-/// family, and what stands between these and the end. A script of this version has one family,
-/// named `main`.
+/// family, what stands behind these, and the files of its dump lines. A script of this version has
+/// one family, named `main`.
 #[derive(Debug, Drop)]
 pub struct Script {
     pub(crate) servers: u32,
@@ -26,6 +26,8 @@ pub struct Script {
     // The number of each file's family.
     pub(crate) file_families: Vec<u32>,
     pub(crate) items: Vec<Item>,
+    // The numbers of the files of the dump lines.
+    pub(crate) dumps: Vec<u32>,
 }
 
 impl Model for Script {
@@ -35,11 +37,11 @@ impl Model for Script {
     ghost Value = { meaning.Script };
 
     ghost view = { λ s. script_with s.servers s.chunk
-        s.families.items s.files.items s.file_families.items s.items.items };
+        s.families.items s.files.items s.file_families.items s.items.items s.dumps.items };
 
     ghost invariant = { λ s. IsKept s.families.items
         (script_with s.servers s.chunk
-        s.families.items s.files.items s.file_families.items s.items.items) };
+        s.families.items s.files.items s.file_families.items s.items.items s.dumps.items) };
 }
 
 impl Script {
@@ -84,6 +86,13 @@ impl Script {
         ensures kept { (text : List ℕ) × IsScript text self.now }
     {
         self.items.as_slice()
+    }
+
+    /// The files of the dump lines, by their numbers, in the order of the lines.
+    pub fn dumps(&self) -> &[u32]
+        ensures { result.now ≡ self.now.dumps }
+    {
+        self.dumps.as_slice()
     }
 
     /// The lose lines up to the end of a phase, in the order of the script; phases are numbered

@@ -63,7 +63,7 @@ static UNKNOWN: [(u32, &[u8], &[u8]); 18] = [
     (11, b"reads a", b"unknown"),
     (11, b"loose 1", b"unknown"),
     (11, b"released a", b"unknown"),
-    (12, b"dump a", b"unknown"),
+    (12, b"dumps a", b"unknown"),
 ];
 
 static ARITIES_FRONT: [(u32, &[u8], &[u8]); 16] = [
@@ -99,7 +99,7 @@ static ARITIES_BACK: [(u32, &[u8], &[u8]); 16] = [
     (10, b"create a b", b"arity"),
     (11, b"read", b"arity"),
     (11, b"read b a", b"arity"),
-    (11, b"read a without 1", b"arity"),
+    (11, b"read a 1", b"arity"),
     (12, b"end 1", b"arity"),
     (12, b"end ", b"arity"),
 ];
@@ -241,6 +241,39 @@ static HOLDS: [(u32, &[u8], &[u8]); 15] = [
     (10, b"remove a a", b"arity"),
     (10, b"remove b", b"nofile"),
     (9, b"remove a", b"order"),
+];
+
+static AWAY: [(u32, &[u8], &[u8]); 18] = [
+    (11, b"read a without", b"arity"),
+    (11, b"read without 1", b"arity"),
+    (11, b"read a with 1", b"arity"),
+    (11, b"read a stop x", b"arity"),
+    (11, b"read b without ", b"number"),
+    (11, b"read a without 0 06", b"number"),
+    (11, b"read a without 0 0 x", b"number"),
+    (11, b"read b without 0 4294967296", b"limit number"),
+    (11, b"read a without 4294967296 4294967296", b"limit number"),
+    (11, b"read a without 3 0 3", b"twice"),
+    (11, b"read b without 0 0", b"twice"),
+    (11, b"read a without 6 6", b"twice"),
+    (11, b"read b without 6", b"nofile"),
+    (2, b"read a without 6", b"nofile"),
+    (11, b"read a without 0 6", b"noserver"),
+    (8, b"read a without 6", b"noserver"),
+    (8, b"read a without 5", b"order"),
+    (11, b"read a without\t1", b"text"),
+];
+
+static DUMPS: [(u32, &[u8], &[u8]); 9] = [
+    (12, b"dump\ta", b"text"),
+    (12, b"dump", b"arity"),
+    (12, b"dump a b", b"arity"),
+    (12, b"dump a without 1", b"arity"),
+    (12, b"dump b", b"nofile"),
+    (12, b"dump ", b"nofile"),
+    (7, b"dump a", b"nofile"),
+    (9, b"dump a", b"order"),
+    (9, b"dump b", b"nofile"),
 ];
 
 // The script with line `n` replaced, and with further bytes at its end.
@@ -390,6 +423,18 @@ fn faults_of_commands_on_a_file_are_told(rt: HostRuntime) -> Result<(), Fail> {
 }
 
 #[test]
+fn faults_of_lists_of_servers_are_told(rt: HostRuntime) -> Result<(), Fail> {
+    assert_eq!(rt; untold(rt.alloc(), &AWAY)?, None);
+    Ok(())
+}
+
+#[test]
+fn faults_of_dump_lines_are_told(rt: HostRuntime) -> Result<(), Fail> {
+    assert_eq!(rt; untold(rt.alloc(), &DUMPS)?, None);
+    Ok(())
+}
+
+#[test]
 fn lines_out_of_order_are_told(rt: HostRuntime) -> Result<(), Fail> {
     assert_eq!(rt; untold(rt.alloc(), &ORDERS_FRONT)?, None);
     Ok(())
@@ -405,7 +450,13 @@ fn later_lines_out_of_order_are_told(rt: HostRuntime) -> Result<(), Fail> {
 fn the_first_faulty_line_is_told(rt: HostRuntime) -> Result<(), Fail> {
     let alloc = rt.alloc();
     // A line that is replaced, what stands in its place, further bytes at the end, and the fault.
-    let cases: [(u32, &[u8], &[u8], u32, &[u8]); 12] = [
+    let cases: [(u32, &[u8], &[u8], u32, &[u8]); 18] = [
+        (12, b"dump a\ndump a", b"\nend", 13, b"twice"),
+        (12, b"dump a\nread a", b"\nend", 13, b"order"),
+        (12, b"dump a\nphase", b"\nend", 13, b"order"),
+        (8, b"dump a", b"", 9, b"order"),
+        (0, b"", b"\ndump a", 13, b"order"),
+        (12, b"dump a\nend", b"\ndump a", 14, b"twice"),
         (0, b"", b"\nend", 13, b"order"),
         (0, b"", b"\nfile a text ", 13, b"arity"),
         (0, b"", b"\nclient", 13, b"unknown"),
@@ -536,8 +587,42 @@ fn a_script_has_at_most_64_phases_and_1_024_commands(rt: HostRuntime) -> Result<
     }
     let text = repeated(alloc, &SCRIPT[..91], b"read a\n", 1_024, b"read b")?;
     assert!(rt; has_fault(alloc, &text, 1_034, b"limit commands"));
+    let text = repeated(alloc, &SCRIPT[..91], b"read a\n", 1_024, b"lose 6")?;
+    assert!(rt; has_fault(alloc, &text, 1_034, b"limit commands"));
+    let text = repeated(
+        alloc,
+        &SCRIPT[..91],
+        b"read a\n",
+        1_024,
+        b"read b without 0 0",
+    )?;
+    assert!(rt; has_fault(alloc, &text, 1_034, b"limit commands"));
     let text = repeated(alloc, &SCRIPT[..91], b"read a\n", 1_024, b"read")?;
     assert!(rt; has_fault(alloc, &text, 1_034, b"arity"));
+    Ok(())
+}
+
+#[test]
+fn every_command_is_printed_as_it_is_read(rt: HostRuntime) -> Result<(), Fail> {
+    let alloc = rt.alloc();
+    let text = edited(
+        alloc,
+        10,
+        b"create a\nhold a\nlose 5\nrelease a\nremove a",
+        b"",
+    )?;
+    assert!(rt; is_printed_again(alloc, &text));
+    let lists = b"read a without 0 3 5\nread a without 2\nread a without 0 1 2 3 4 5";
+    let text = edited(alloc, 10, lists, b"")?;
+    assert!(rt; is_printed_again(alloc, &text));
+    let lists = b"read a without 5 0 3\nread a without 2\nread a without 5 4 3 2 1 0";
+    let other = edited(alloc, 10, lists, b"")?;
+    let script = read_script(alloc, &other).or(Err("refused"))?;
+    assert_eq!(rt; print_script(alloc, &script)?.as_slice(), text.as_slice());
+    let text = edited(alloc, 12, b"dump a\nend", b"")?;
+    assert!(rt; is_printed_again(alloc, &text));
+    let script = read_script(alloc, &text).or(Err("refused"))?;
+    assert_eq!(rt; script.dumps(), [0].as_slice());
     Ok(())
 }
 

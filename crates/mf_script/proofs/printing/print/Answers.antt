@@ -5,6 +5,7 @@ pub returns : goal.returns
 returns c =
     rw (
       c.in_ok-begin.ensures,
+      c.in_ok-push_dumps.ensures,
       c.in_ok-push_items.ensures,
       c.in_ok-push_files.ensures,
       c.in_ok-push_families.ensures,
@@ -12,4 +13,4 @@ returns c =
       c.in_ok-push_servers.ensures,
       c.in_ok-out.ensures.items,
     )
-    (whole_text c.args.servers c.args.chunk c.args.families.now c.args.files.now c.args.items.now)
+    (whole_text c.args.servers c.args.chunk c.args.families.now c.args.files.now c.args.items.now c.args.dumps.now)

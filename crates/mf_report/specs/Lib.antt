@@ -3,6 +3,8 @@ pub mod Names
 pub mod Counts
 pub mod Outcomes
 pub mod Commands
+pub mod Dumps
+pub mod Laws
 pub mod Report
 pub mod Writing
 pub mod Faults

@@ -13,7 +13,7 @@ use crate::outcomes::{push_change, push_outcome};
 use mf_client::{Done, Part, Place};
 use mf_script::{Act, FileLine, name_of, push_act};
 use mf_text::push_decimal;
-use std::alloc::AllocError;
+use std::alloc::{AllocError, Global};
 
 /// Whether the operations of a command count among those of conversions.
 pub fn converts(act: &Act) -> bool
@@ -41,24 +41,34 @@ fn push_place(out: &mut Vec<u8>, place: Place) -> Result<(), AllocError>
 
 // A command, and what came of it.
 #[tactic(auto, using(std::proofs::lemmas::List::append_assoc))]
-fn push_command(out: &mut Vec<u8>, files: &[FileLine], done: &Done) -> Result<(), AllocError>
+fn push_command(
+    alloc: Global,
+    out: &mut Vec<u8>,
+    files: &[FileLine],
+    done: &Done,
+) -> Result<(), AllocError>
     ensures { OnOk result
         (out.new.items ≡ out.old.items ++ command_text (names_in files.now) done.now) }
 {
-    push_act(out, files, done.act)?;
+    push_act(alloc, out, files, done.act)?;
     out.extend_from_slice(b": ")?;
     push_outcome(out, &done.outcome)
 }
 
 // The line of a command.
 #[tactic(auto, using(std::proofs::lemmas::List::append_assoc))]
-fn push_line(out: &mut Vec<u8>, files: &[FileLine], done: &Done) -> Result<(), AllocError>
+fn push_line(
+    alloc: Global,
+    out: &mut Vec<u8>,
+    files: &[FileLine],
+    done: &Done,
+) -> Result<(), AllocError>
     ensures { OnOk result
         (out.new.items ≡ out.old.items ++ ended (done_line (names_in files.now) done.now)) }
 {
     push_place(out, done.place)?;
     out.push(b' ')?;
-    push_command(out, files, done)?;
+    push_command(alloc, out, files, done)?;
     out.push(b' ')?;
     push_io(out, done.io)?;
     out.push(b'\n')?;
@@ -103,16 +113,22 @@ fn push_parts(
 
 // The lines of a command.
 #[tactic(auto, using(std::proofs::lemmas::List::append_assoc))]
-fn push_done(out: &mut Vec<u8>, files: &[FileLine], done: &Done) -> Result<(), AllocError>
+fn push_done(
+    alloc: Global,
+    out: &mut Vec<u8>,
+    files: &[FileLine],
+    done: &Done,
+) -> Result<(), AllocError>
     ensures { OnOk result
         (out.new.items ≡ out.old.items ++ done_text (names_in files.now) done.now) }
 {
-    push_line(out, files, done)?;
+    push_line(alloc, out, files, done)?;
     push_parts(out, files, done.place, done.parts.as_slice())
 }
 
 /// Writes the lines of the commands, in order. Fails only for want of memory.
 pub fn push_commands(
+    alloc: Global,
     out: &mut Vec<u8>,
     files: &[FileLine],
     commands: &[Done],
@@ -121,7 +137,7 @@ pub fn push_commands(
         ++ flat_map (done_text (names_in files.now)) commands.now) }
 {
     for done in commands {
-        push_done(out, files, done)?;
+        push_done(alloc, out, files, done)?;
     }
     Ok(())
 }

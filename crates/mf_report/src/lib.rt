@@ -4,7 +4,9 @@
 
 mod commands;
 mod counts;
+mod dumps;
 mod faults;
+mod laws;
 mod lines;
 mod names;
 mod outcomes;

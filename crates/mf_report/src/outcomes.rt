@@ -15,8 +15,8 @@ use mf_text::push_hex;
 use sha2::{Digest, Sha256};
 use std::alloc::AllocError;
 
-// The SHA-256 of the bytes.
-fn digest_of(bytes: &[u8]) -> [u8; 32]
+/// The SHA-256 of the bytes.
+pub fn digest_of(bytes: &[u8]) -> [u8; 32]
     ensures { result ≡ sha256 bytes.now }
 {
     let mut hasher = Sha256::new();

@@ -12,8 +12,10 @@ ghost use Rattle.mf_report.specs.Writing.{Leaves};
 
 use crate::commands::{converts, push_commands};
 use crate::counts::{push_io, total};
+use crate::dumps::push_dumps;
 use mf_client::Done;
 use mf_io::{Sink, write_all};
+use mf_plain::Plain;
 use mf_script::Script;
 use mf_vault::Io;
 use std::alloc::{AllocError, Global};
@@ -31,7 +33,11 @@ pub enum ReportFault {
 fn ios_of(alloc: Global, commands: &[Done]) -> Result<Vec<Io>, AllocError>
     ensures { IfOk result (λ ios. ios.items ≡ map (λ (d : Done). d.io) commands.now) }
 {
-    commands.iter().map(|done| done.io).collect(alloc)
+    let mut ios = Vec::new(alloc);
+    for done in commands {
+        ios.push(done.io)?;
+    }
+    Ok(ios)
 }
 
 // What each of the commands took that convert.
@@ -81,15 +87,21 @@ fn push_total(out: &mut Vec<u8>, word: &[u8], io: Io) -> Result<(), AllocError>
 
 // The report's bytes.
 #[tactic(auto, using(std::proofs::lemmas::List::append_assoc))]
-fn report_bytes(alloc: Global, script: &Script, commands: &[Done]) -> Result<Vec<u8>, AllocError>
+fn report_bytes(
+    alloc: Global,
+    script: &Script,
+    commands: &[Done],
+    files: &[Plain],
+) -> Result<Vec<u8>, AllocError>
     requires few { length commands.now ≤ 4096 }
     requires small { All (λ (d : Done). IsSmall d.io) commands.now }
-    ensures { IfOk result (λ text. text.items ≡ report_text script.now commands.now) }
+    ensures { IfOk result (λ text. text.items ≡ report_text script.now commands.now files.now) }
 {
     let all = took(alloc, commands)?;
     let converted = conversions_took(alloc, commands)?;
     let mut out = Vec::from_slice(alloc, b"report 1\n")?;
-    push_commands(&mut out, script.files(), commands)?;
+    push_commands(alloc, &mut out, script.files(), commands)?;
+    push_dumps(&mut out, script.files(), files, script.dumps())?;
     push_total(&mut out, b"total ", all)?;
     push_total(&mut out, b"converts ", converted)?;
     out.extend_from_slice(b"end\n")?;
@@ -97,8 +109,8 @@ fn report_bytes(alloc: Global, script: &Script, commands: &[Done]) -> Result<Vec
 }
 
 /// Writes the report of these commands of the script, in their order: one line for each, with what
-/// came of it and the operations on chunks that it took, one line for each of its parts, and the
-/// sums of the operations.
+/// came of it and the operations on chunks that it took, one line for each of its parts, the dumps
+/// that the script asks for of these files, and the sums of the operations.
 ///
 /// # Errors
 /// `Sink` where a write failed: the sink's count has risen, and a front of the report was written.
@@ -108,16 +120,18 @@ pub fn report<K: Sink>(
     sink: &mut K,
     script: &Script,
     done: &[Done],
+    files: &[Plain],
 ) -> Result<(), ReportFault>
     requires few { length done.now ≤ 4096 }
     requires small { All (λ (d : Done). IsSmall d.io) done.now }
     ensures text { OnOk result
-        (Appends (K.written sink.old) (K.written sink.new) (report_text script.now done.now)) }
+        (Appends (K.written sink.old) (K.written sink.new)
+        (report_text script.now done.now files.now)) }
     ensures count { OnOk result (K.faults sink.new ≡ K.faults sink.old) }
-    ensures fault { IfErr result (λ fault. Leaves fault (report_text script.now done.now)
+    ensures fault { IfErr result (λ fault. Leaves fault (report_text script.now done.now files.now)
         (K.written sink.old) (K.written sink.new) (K.faults sink.old) (K.faults sink.new)) }
 {
-    let Ok(text) = report_bytes(alloc, script, done) else {
+    let Ok(text) = report_bytes(alloc, script, done, files) else {
         return Err(ReportFault::Memory);
     };
     match write_all(sink, &text) {

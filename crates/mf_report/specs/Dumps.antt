@@ -1,0 +1,64 @@
+-- The dump of a file at rest.
+use Rattle.std.specs.Prelude.{ℕ, ◌+◌, ◌-◌, ◌==◌, Bool, true, false, if◌then◌else◌, List, [], ◌++◌, length, codes}
+use Rattle.std.specs.Prelude.{slice_index_or, Option, Some, None}
+use Rattle.std.specs.List.{flat_map, range_with_len, slice_get}
+use Rattle.sha2.specs.Sha256.{sha256}
+use Rattle.mf_text.specs.Hex.{hex_text}
+use Rattle.mf_places.specs.Names as names
+use Rattle.mf_places.specs.Placement.{server_of}
+use Rattle.mf_vault.specs.declared.answers.Rest.{Rest}
+use Rattle.mf_vault.specs.declared.answers.Rest.TheVariants as rest
+use Rattle.mf_plain.specs.Resting.{Resting}
+use Rattle.mf_lines.specs.LineTexts.{name_at}
+use Rattle.mf_report.specs.Lines.{ended, spaced}
+use Rattle.mf_report.specs.Names.{name_text}
+
+-- a published number, of so many stages: none, a generation, or that the file is removed
+abbrev pub published_text : ℕ → ℕ → List ℕ
+published_text stages number =
+    if number == 0 then codes " none" else (if number == stages + 1 then codes " removed" else spaced (number - 1))
+
+-- the first line: the file's name, what is published of it, and how many bytes it has
+abbrev pub head_text : List ℕ → Resting → List ℕ
+head_text name r =
+    codes "dump " ++ name ++ codes " published" ++ published_text (length r.book.shape.stages) r.number
+    ++ codes " length" ++ spaced r.book.bytes
+
+-- whether a generation is closed
+abbrev pub kept_text : Bool → List ℕ
+kept_text true = codes " closed"
+kept_text false = codes " kept"
+
+-- the line of generation g
+abbrev pub generation_text : Resting → ℕ → List ℕ
+generation_text r g = codes "gen" ++ spaced g ++ kept_text (slice_index_or r.closed g false)
+
+-- the state of a chunk; of one that is here the SHA-256 of its bytes
+abbrev pub rest_text : Rest → List ℕ
+rest_text rest.Unborn = codes "unborn"
+rest_text (rest.Here bytes) = codes "here " ++ hex_text (sha256 bytes)
+rest_text (rest.Lost line) = codes "lost" ++ spaced line
+rest_text rest.Dropped = codes "dropped"
+
+-- the line of name number n: the name, its server and its state
+abbrev pub chunk_text : Resting → ℕ → List ℕ
+chunk_text r n =
+    codes "chunk " ++ name_text (names.name_at r.book n) ++ codes " server"
+    ++ spaced (server_of r.book (names.name_at r.book n))
+    ++ codes " " ++ rest_text (slice_index_or r.names n rest.Unborn)
+
+-- the dump of a file of this name: its first line, and then one line for each generation and each name
+abbrev pub dump_text : List ℕ → Resting → List ℕ
+dump_text name r =
+    ended (head_text name r)
+    ++ flat_map (λ g. ended (generation_text r g)) (range_with_len 0 (length r.book.shape.stages))
+    ++ flat_map (λ n. ended (chunk_text r n)) (range_with_len 0 (names.count_of r.book))
+
+-- the dump of a file of this name, if it is there
+abbrev pub dump_if : List ℕ → Option Resting → List ℕ
+dump_if name None = []
+dump_if name (Some r) = dump_text name r
+
+-- the dumps of the files of these numbers
+abbrev pub dumps_text : List (List ℕ) → List Resting → List ℕ → List ℕ
+dumps_text names files dumps = flat_map (λ file. dump_if (name_at names file) (slice_get files file)) dumps

@@ -1,6 +1,6 @@
 -- What is read of a command; a list of servers is printed in their order and read again.
 use Rattle.std.proofs.Common.{◌≡◌, ℕ, ◌^◌, ◌<◌, ◌≤◌, Bool, true, false, not, ◌&&◌, ltb, leb, List}
-use Rattle.std.proofs.Common.{[], ◌∷◌, ◌++◌, length, map, Some, Result, Ok, refl, sym, ap, ◌∙◌, subst}
+use Rattle.std.proofs.Common.{[], ◌∷◌, ◌++◌, length, map, Some, None, Result, Ok, refl, sym, ap, ◌∙◌, subst}
 use Rattle.std.proofs.Common.{arith, lit<, inl, inr}
 use Rattle.std.specs.Prelude.{codes, ok_or, IfSome}
 use Rattle.std.specs.List.{list_all, list_any, join_with_byte, AllByRecursion}
@@ -373,6 +373,14 @@ command_read so verb.Hold ws form knows e =
 command_read so verb.Release ws form knows e =
     as_it_is so (word.Command verb.Release) ws form e
     (on_file so verb.Release ws act.Release form (λ n. refl) (λ n. refl) (λ n. refl) e)
+command_read so verb.Repair ws form knows e =
+    with_list so verb.Repair ws act.Repair form (λ n a. refl) (λ n a. refl) (λ n a. refl) (λ xs. refl) knows e
+command_read so verb.Convert ws form knows e =
+    with_list so verb.Convert ws (λ n a. act.Convert n a None) form (λ n a. refl) (λ n a. refl) (λ n a. refl)
+    (λ xs. refl) knows e
+command_read so verb.Reclaim ws form knows e =
+    as_it_is so (word.Command verb.Reclaim) ws form e
+    (on_file so verb.Reclaim ws act.Reclaim form (λ n. refl) (λ n. refl) (λ n. refl) e)
 command_read so verb.Remove ws form knows e =
     as_it_is so (word.Command verb.Remove) ws form e
     (on_file so verb.Remove ws act.Remove form (λ n. refl) (λ n. refl) (λ n. refl) e)

@@ -46,6 +46,9 @@ behind_verb names (act.Create file) = name_at names file ∷ []
 behind_verb names (act.Read file away) = name_at names file ∷ listed (servers_of away)
 behind_verb names (act.Hold file) = name_at names file ∷ []
 behind_verb names (act.Release file) = name_at names file ∷ []
+behind_verb names (act.Repair file away) = name_at names file ∷ listed (servers_of away)
+behind_verb names (act.Convert file away stop) = name_at names file ∷ listed (servers_of away)
+behind_verb names (act.Reclaim file) = name_at names file ∷ []
 behind_verb names (act.Remove file) = name_at names file ∷ []
 behind_verb names (act.Lose server) = decimal_text server ∷ []
 

@@ -260,6 +260,9 @@ act_in so verb.Create words = file_operand so words >>= λ file. Ok (act.Create 
 act_in so verb.Read words = away_operands so words >>= λ two. Ok (act.Read two.0 two.1)
 act_in so verb.Hold words = file_operand so words >>= λ file. Ok (act.Hold file)
 act_in so verb.Release words = file_operand so words >>= λ file. Ok (act.Release file)
+act_in so verb.Repair words = away_operands so words >>= λ two. Ok (act.Repair two.0 two.1)
+act_in so verb.Convert words = away_operands so words >>= λ two. Ok (act.Convert two.0 two.1 None)
+act_in so verb.Reclaim words = file_operand so words >>= λ file. Ok (act.Reclaim file)
 act_in so verb.Remove words = file_operand so words >>= λ file. Ok (act.Remove file)
 act_in so verb.Lose words = server_operand so words >>= λ server. Ok (act.Lose server)
 

@@ -24,6 +24,9 @@ verb_of (act.Create file) = verb.Create
 verb_of (act.Read file away) = verb.Read
 verb_of (act.Hold file) = verb.Hold
 verb_of (act.Release file) = verb.Release
+verb_of (act.Repair file away) = verb.Repair
+verb_of (act.Convert file away stop) = verb.Convert
+verb_of (act.Reclaim file) = verb.Reclaim
 verb_of (act.Remove file) = verb.Remove
 verb_of (act.Lose server) = verb.Lose
 
@@ -33,6 +36,9 @@ file_in (act.Create file) = Some file
 file_in (act.Read file away) = Some file
 file_in (act.Hold file) = Some file
 file_in (act.Release file) = Some file
+file_in (act.Repair file away) = Some file
+file_in (act.Convert file away stop) = Some file
+file_in (act.Reclaim file) = Some file
 file_in (act.Remove file) = Some file
 file_in (act.Lose server) = None
 

@@ -24,6 +24,9 @@ verb_text verb.Create = codes "create"
 verb_text verb.Read = codes "read"
 verb_text verb.Hold = codes "hold"
 verb_text verb.Release = codes "release"
+verb_text verb.Repair = codes "repair"
+verb_text verb.Convert = codes "convert"
+verb_text verb.Reclaim = codes "reclaim"
 verb_text verb.Remove = codes "remove"
 verb_text verb.Lose = codes "lose"
 
@@ -46,7 +49,8 @@ abbrev pub line_words : List LineWord
 line_words =
     word.Morph ∷ word.Servers ∷ word.Chunk ∷ word.Points ∷ word.Stage ∷ word.File ∷ word.Phase ∷ word.Client
     ∷ word.Command verb.Create ∷ word.Command verb.Read ∷ word.Command verb.Hold ∷ word.Command verb.Release
-    ∷ word.Command verb.Remove ∷ word.Command verb.Lose ∷ word.Dump ∷ word.End ∷ []
+    ∷ word.Command verb.Repair ∷ word.Command verb.Convert ∷ word.Command verb.Reclaim ∷ word.Command verb.Remove
+    ∷ word.Command verb.Lose ∷ word.Dump ∷ word.End ∷ []
 
 -- the line word that these bytes spell
 unfoldable pub word_of : List ℕ → Option LineWord

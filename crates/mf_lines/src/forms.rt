@@ -65,6 +65,9 @@ impl Act {
             Act::Read { .. } => Verb::Read,
             Act::Hold(_) => Verb::Hold,
             Act::Release(_) => Verb::Release,
+            Act::Repair { .. } => Verb::Repair,
+            Act::Convert { .. } => Verb::Convert,
+            Act::Reclaim(_) => Verb::Reclaim,
             Act::Remove(_) => Verb::Remove,
             Act::Lose(_) => Verb::Lose,
         }
@@ -79,6 +82,9 @@ impl Act {
             | Act::Read { file, .. }
             | Act::Hold(file)
             | Act::Release(file)
+            | Act::Repair { file, .. }
+            | Act::Convert { file, .. }
+            | Act::Reclaim(file)
             | Act::Remove(file) => Some(file),
             Act::Lose(_) => None,
         }
@@ -365,6 +371,16 @@ fn act_of(alloc: Global, draft: &Draft, verb: Verb, rest: Option<&[u8]>) -> Resu
         }
         Verb::Hold => Ok(Act::Hold(file_operand(draft, rest)?)),
         Verb::Release => Ok(Act::Release(file_operand(draft, rest)?)),
+        Verb::Repair => {
+            let (file, away) = away_operands(alloc, draft, rest)?;
+            Ok(Act::Repair { file, away })
+        }
+        Verb::Convert => {
+            let (file, away) = away_operands(alloc, draft, rest)?;
+            let stop = None;
+            Ok(Act::Convert { file, away, stop })
+        }
+        Verb::Reclaim => Ok(Act::Reclaim(file_operand(draft, rest)?)),
         Verb::Remove => Ok(Act::Remove(file_operand(draft, rest)?)),
         Verb::Lose => Ok(Act::Lose(server_operand(draft, rest)?)),
     }

@@ -150,6 +150,17 @@ pub enum Act {
     },
     Hold(u32),
     Release(u32),
+    Repair {
+        file: u32,
+        away: Servers,
+    },
+    /// Where `stop` is a number, it stops after so many operations on chunks.
+    Convert {
+        file: u32,
+        away: Servers,
+        stop: Option<u32>,
+    },
+    Reclaim(u32),
     Remove(u32),
     Lose(u32),
 }

@@ -93,9 +93,12 @@ pub fn push_act(
     out.extend_from_slice(act.verb().text())?;
     match act {
         Act::Read { file, away } => push_away(alloc, out, files, file, away),
+        Act::Repair { file, away } => push_away(alloc, out, files, file, away),
+        Act::Convert { file, away, .. } => push_away(alloc, out, files, file, away),
         Act::Create(file)
         | Act::Hold(file)
         | Act::Release(file)
+        | Act::Reclaim(file)
         | Act::Remove(file) => push_name(out, files, file),
         Act::Lose(server) => push_number(out, server),
     }

@@ -20,6 +20,9 @@ pub enum Verb {
     Read,
     Hold,
     Release,
+    Repair,
+    Convert,
+    Reclaim,
     Remove,
     Lose,
 }
@@ -34,6 +37,9 @@ impl Verb {
             Verb::Read => b"read",
             Verb::Hold => b"hold",
             Verb::Release => b"release",
+            Verb::Repair => b"repair",
+            Verb::Convert => b"convert",
+            Verb::Reclaim => b"reclaim",
             Verb::Remove => b"remove",
             Verb::Lose => b"lose",
         }
@@ -56,7 +62,7 @@ pub enum LineWord {
     End,
 }
 
-const LINE_WORDS: [LineWord; 16] = [
+const LINE_WORDS: [LineWord; 19] = [
     LineWord::Morph,
     LineWord::Servers,
     LineWord::Chunk,
@@ -69,6 +75,9 @@ const LINE_WORDS: [LineWord; 16] = [
     LineWord::Command(Verb::Read),
     LineWord::Command(Verb::Hold),
     LineWord::Command(Verb::Release),
+    LineWord::Command(Verb::Repair),
+    LineWord::Command(Verb::Convert),
+    LineWord::Command(Verb::Reclaim),
     LineWord::Command(Verb::Remove),
     LineWord::Command(Verb::Lose),
     LineWord::Dump,

@@ -1,5 +1,5 @@
 -- Commands that were done, as they are printed.
-use Rattle.std.specs.Prelude.{ℕ, Bool, false, List, ◌++◌, codes}
+use Rattle.std.specs.Prelude.{ℕ, Bool, true, false, List, ◌++◌, codes}
 use Rattle.std.specs.List.{flat_map}
 use Rattle.mf_text.specs.Decimal.{decimal_text}
 use Rattle.mf_lines.specs.declared.parts.Act.{Act}
@@ -23,6 +23,7 @@ act_text names act = line_text names (says.Command act)
 
 -- whether the operations of a command count among those of conversions
 abbrev pub converts : Act → Bool
+converts (act.Convert file away stop) = true
 converts any_other = false
 
 -- a command, and what came of it

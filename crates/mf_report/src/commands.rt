@@ -20,12 +20,8 @@ pub fn converts(act: &Act) -> bool
     ensures { result ≡ converts act.now }
 {
     match act {
-        Act::Create(_)
-        | Act::Read { .. }
-        | Act::Hold(_)
-        | Act::Release(_)
-        | Act::Remove(_)
-        | Act::Lose(_) => false,
+        Act::Convert { .. } => true,
+        _ => false,
     }
 }
 

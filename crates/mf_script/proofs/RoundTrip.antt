@@ -50,6 +50,11 @@ same_words names more (act.Read file away) h =
     ap (λ w. w ∷ listed (servers_of away)) (sym (get_or_append_left names more [] file h))
 same_words names more (act.Hold file) h = ap (λ w. w ∷ []) (sym (get_or_append_left names more [] file h))
 same_words names more (act.Release file) h = ap (λ w. w ∷ []) (sym (get_or_append_left names more [] file h))
+same_words names more (act.Repair file away) h =
+    ap (λ w. w ∷ listed (servers_of away)) (sym (get_or_append_left names more [] file h))
+same_words names more (act.Convert file away stop) h =
+    ap (λ w. w ∷ listed (servers_of away)) (sym (get_or_append_left names more [] file h))
+same_words names more (act.Reclaim file) h = ap (λ w. w ∷ []) (sym (get_or_append_left names more [] file h))
 same_words names more (act.Remove file) h = ap (λ w. w ∷ []) (sym (get_or_append_left names more [] file h))
 same_words names more (act.Lose server) h = refl
 

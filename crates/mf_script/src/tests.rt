@@ -243,6 +243,23 @@ static HOLDS: [(u32, &[u8], &[u8]); 15] = [
     (9, b"remove a", b"order"),
 ];
 
+static CHANGES: [(u32, &[u8], &[u8]); 14] = [
+    (10, b"repair", b"arity"),
+    (10, b"repair a 1", b"arity"),
+    (10, b"repair b", b"nofile"),
+    (8, b"repair a", b"order"),
+    (10, b"convert", b"arity"),
+    (10, b"convert a stop", b"arity"),
+    (10, b"convert a stop 9", b"arity"),
+    (10, b"convert a stop x", b"arity"),
+    (10, b"convert b", b"nofile"),
+    (9, b"convert a", b"order"),
+    (10, b"reclaim", b"arity"),
+    (10, b"reclaim a without 1", b"arity"),
+    (10, b"reclaim b", b"nofile"),
+    (9, b"reclaim a", b"order"),
+];
+
 static AWAY: [(u32, &[u8], &[u8]); 18] = [
     (11, b"read a without", b"arity"),
     (11, b"read without 1", b"arity"),
@@ -262,6 +279,19 @@ static AWAY: [(u32, &[u8], &[u8]); 18] = [
     (8, b"read a without 6", b"noserver"),
     (8, b"read a without 5", b"order"),
     (11, b"read a without\t1", b"text"),
+];
+
+static AWAY_CHANGES: [(u32, &[u8], &[u8]); 10] = [
+    (10, b"repair a without", b"arity"),
+    (10, b"repair a without x", b"number"),
+    (10, b"repair a without 1 1", b"twice"),
+    (10, b"repair b without 1", b"nofile"),
+    (10, b"repair a without 6", b"noserver"),
+    (10, b"convert a without", b"arity"),
+    (10, b"convert a without 1 stop 9", b"number"),
+    (10, b"convert a without 1 1", b"twice"),
+    (10, b"convert b without 1", b"nofile"),
+    (9, b"convert a without 1", b"order"),
 ];
 
 static DUMPS: [(u32, &[u8], &[u8]); 9] = [
@@ -423,8 +453,20 @@ fn faults_of_commands_on_a_file_are_told(rt: HostRuntime) -> Result<(), Fail> {
 }
 
 #[test]
+fn faults_of_further_commands_on_a_file_are_told(rt: HostRuntime) -> Result<(), Fail> {
+    assert_eq!(rt; untold(rt.alloc(), &CHANGES)?, None);
+    Ok(())
+}
+
+#[test]
 fn faults_of_lists_of_servers_are_told(rt: HostRuntime) -> Result<(), Fail> {
     assert_eq!(rt; untold(rt.alloc(), &AWAY)?, None);
+    Ok(())
+}
+
+#[test]
+fn faults_of_lists_of_servers_of_changes_are_told(rt: HostRuntime) -> Result<(), Fail> {
+    assert_eq!(rt; untold(rt.alloc(), &AWAY_CHANGES)?, None);
     Ok(())
 }
 
@@ -608,14 +650,14 @@ fn every_command_is_printed_as_it_is_read(rt: HostRuntime) -> Result<(), Fail> {
     let text = edited(
         alloc,
         10,
-        b"create a\nhold a\nlose 5\nrelease a\nremove a",
+        b"create a\nhold a\nlose 5\nrepair a\nconvert a\nreclaim a\nrelease a\nremove a",
         b"",
     )?;
     assert!(rt; is_printed_again(alloc, &text));
-    let lists = b"read a without 0 3 5\nread a without 2\nread a without 0 1 2 3 4 5";
+    let lists = b"read a without 0 3 5\nrepair a without 2\nconvert a without 0 1 2 3 4 5";
     let text = edited(alloc, 10, lists, b"")?;
     assert!(rt; is_printed_again(alloc, &text));
-    let lists = b"read a without 5 0 3\nread a without 2\nread a without 5 4 3 2 1 0";
+    let lists = b"read a without 5 0 3\nrepair a without 2\nconvert a without 5 4 3 2 1 0";
     let other = edited(alloc, 10, lists, b"")?;
     let script = read_script(alloc, &other).or(Err("refused"))?;
     assert_eq!(rt; print_script(alloc, &script)?.as_slice(), text.as_slice());

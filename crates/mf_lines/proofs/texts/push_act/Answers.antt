@@ -13,3 +13,19 @@ returns-in-Read c =
     c.push_away.new.out.items c.text.result.now _ c.in_ok-extend_from_slice.ensures.items
     (c.text.ensures ∙ ap verb_text c.verb.ensures) (ap (behind_verb (names_in c.args.files.now)) c.in-Read.is))
     c.push_away.ensures
+
+pub returns-in-Repair : goal.returns-in-Repair
+returns-in-Repair c =
+    on_ok-map c.push_away-in-Repair.result _ _
+    (act_line (names_in c.args.files.now) c.args.act c.args.out.now.items c.extend_from_slice.new.self.items
+    c.push_away-in-Repair.new.out.items c.text.result.now _ c.in_ok-extend_from_slice.ensures.items
+    (c.text.ensures ∙ ap verb_text c.verb.ensures) (ap (behind_verb (names_in c.args.files.now)) c.in-Repair.is))
+    c.push_away-in-Repair.ensures
+
+pub returns-in-Convert : goal.returns-in-Convert
+returns-in-Convert c =
+    on_ok-map c.push_away-in-Convert.result _ _
+    (act_line (names_in c.args.files.now) c.args.act c.args.out.now.items c.extend_from_slice.new.self.items
+    c.push_away-in-Convert.new.out.items c.text.result.now _ c.in_ok-extend_from_slice.ensures.items
+    (c.text.ensures ∙ ap verb_text c.verb.ensures) (ap (behind_verb (names_in c.args.files.now)) c.in-Convert.is))
+    c.push_away-in-Convert.ensures

@@ -2,6 +2,8 @@
 
 use mf_convert::Change;
 use mf_read::ReadOutcome;
+use mf_reclaim::ReclaimOutcome;
+use mf_repair::RepairOutcome;
 use mf_script::Act;
 use mf_vault::Io;
 use std::marker::Model;
@@ -48,6 +50,10 @@ pub enum Outcome {
     NotHeld,
     /// So many chunks were lost.
     Lost(u32),
+    /// Of a repair.
+    Repair(RepairOutcome),
+    /// Of a reclaim.
+    Reclaim(ReclaimOutcome),
     /// So many conversions published a generation.
     Swept(u32),
     /// Memory ran out.

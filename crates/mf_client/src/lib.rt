@@ -14,5 +14,7 @@ pub use done::{Done, Outcome, Part, Parts, Place};
 pub use laws::run_has_one_result;
 pub use mf_convert::Change;
 pub use mf_read::ReadOutcome;
+pub use mf_reclaim::ReclaimOutcome;
+pub use mf_repair::RepairOutcome;
 pub use running::run_client;
 pub use turnstile::{Free, Turnstile};

@@ -1,9 +1,11 @@
 //! The outcomes of commands, written.
 
-ghost use Rattle.std.specs.Prelude.{◌≡◌, ◌++◌, OnOk};
+ghost use Rattle.std.specs.Prelude.{◌≡◌, ◌++◌, codes, OnOk};
+ghost use Rattle.std.specs.List.{flat_map};
 ghost use Rattle.sha2.specs.Sha256.{sha256};
 ghost use Rattle.mf_report.specs.Outcomes.{step_text, away_text, stripe_text, bytes_text};
 ghost use Rattle.mf_report.specs.Outcomes.{change_text, read_text, outcome_text};
+ghost use Rattle.mf_report.specs.Outcomes.{repair_text, pin_text, pins_text, reclaim_text};
 
 use crate::lines::push_word;
 use crate::names::{push_lost, push_lost_names, push_name};
@@ -11,7 +13,9 @@ use mf_client::Outcome;
 use mf_convert::Change;
 use mf_places::Name;
 use mf_read::ReadOutcome;
-use mf_text::push_hex;
+use mf_reclaim::ReclaimOutcome;
+use mf_repair::RepairOutcome;
+use mf_text::{push_decimal, push_hex};
 use sha2::{Digest, Sha256};
 use std::alloc::AllocError;
 
@@ -134,6 +138,93 @@ fn push_read(out: &mut Vec<u8>, read: &ReadOutcome) -> Result<(), AllocError>
     }
 }
 
+// What came of a repair.
+#[tactic(auto, using(std::proofs::lemmas::List::append_assoc))]
+fn push_repair(out: &mut Vec<u8>, repair: &RepairOutcome) -> Result<(), AllocError>
+    ensures { OnOk result (out.new.items ≡ out.old.items ++ repair_text repair.now) }
+{
+    match repair {
+        RepairOutcome::Repaired { restored, skipped } => {
+            push_word(out, b"repaired", u64::from(*restored))?;
+            push_word(out, b" skipped", u64::from(*skipped))
+        }
+        RepairOutcome::Absent => out.extend_from_slice(b"absent"),
+        RepairOutcome::Removed => out.extend_from_slice(b"removed"),
+        RepairOutcome::Busy => out.extend_from_slice(b"busy"),
+        RepairOutcome::DataLost { g, stripe, lost } => {
+            push_stripe(out, b"datalost", *g, *stripe)?;
+            out.extend_from_slice(b" lost")?;
+            push_lost_names(out, lost.as_slice())
+        }
+        RepairOutcome::Unreachable {
+            g,
+            stripe,
+            name,
+            server,
+        } => {
+            push_stripe(out, b"unreachable", *g, *stripe)?;
+            out.push(b' ')?;
+            push_away(out, *name, *server)
+        }
+        RepairOutcome::Memory => out.extend_from_slice(b"memory"),
+    }
+}
+
+// A generation and the number of its pins.
+#[tactic(auto, using(std::proofs::lemmas::List::append_assoc))]
+fn push_pin(out: &mut Vec<u8>, pin: (u32, u32)) -> Result<(), AllocError>
+    ensures { OnOk result (out.new.items ≡ out.old.items ++ pin_text pin) }
+{
+    push_decimal(out, u64::from(pin.0))?;
+    out.push(b':')?;
+    push_decimal(out, u64::from(pin.1))
+}
+
+// Further such generations, each behind a comma.
+fn push_more_pins(out: &mut Vec<u8>, pins: &[(u32, u32)]) -> Result<(), AllocError>
+    ensures { OnOk result (out.new.items
+        ≡ out.old.items ++ flat_map (λ other. codes "," ++ pin_text other) pins.now) }
+{
+    for pin in pins {
+        out.push(b',')?;
+        push_pin(out, *pin)?;
+    }
+    Ok(())
+}
+
+// Generations with pins.
+#[tactic(auto, using(std::proofs::lemmas::List::append_assoc))]
+fn push_pins(out: &mut Vec<u8>, pins: &[(u32, u32)]) -> Result<(), AllocError>
+    ensures { OnOk result (out.new.items ≡ out.old.items ++ pins_text pins.now) }
+{
+    let Some((first, more)) = pins.split_first() else {
+        return out.extend_from_slice(b"-");
+    };
+    push_pin(out, *first)?;
+    push_more_pins(out, more)
+}
+
+// What came of a reclaim.
+#[tactic(auto, using(std::proofs::lemmas::List::append_assoc))]
+fn push_reclaim(out: &mut Vec<u8>, reclaim: &ReclaimOutcome) -> Result<(), AllocError>
+    ensures { OnOk result (out.new.items ≡ out.old.items ++ reclaim_text reclaim.now) }
+{
+    match reclaim {
+        ReclaimOutcome::Reclaimed {
+            closed,
+            dropped,
+            pinned,
+        } => {
+            push_word(out, b"reclaimed closed", u64::from(*closed))?;
+            push_word(out, b" dropped", u64::from(*dropped))?;
+            out.extend_from_slice(b" pinned ")?;
+            push_pins(out, pinned.as_slice())
+        }
+        ReclaimOutcome::Absent => out.extend_from_slice(b"absent"),
+        ReclaimOutcome::Memory => out.extend_from_slice(b"memory"),
+    }
+}
+
 /// Writes what came of a command. Fails only for want of memory.
 pub fn push_outcome(out: &mut Vec<u8>, outcome: &Outcome) -> Result<(), AllocError>
     ensures { OnOk result (out.new.items ≡ out.old.items ++ outcome_text outcome.now) }
@@ -154,6 +245,8 @@ pub fn push_outcome(out: &mut Vec<u8>, outcome: &Outcome) -> Result<(), AllocErr
         Outcome::Released(g) => push_word(out, b"released", u64::from(*g)),
         Outcome::NotHeld => out.extend_from_slice(b"notheld"),
         Outcome::Lost(n) => push_word(out, b"lost", u64::from(*n)),
+        Outcome::Repair(repair) => push_repair(out, repair),
+        Outcome::Reclaim(reclaim) => push_reclaim(out, reclaim),
         Outcome::Swept(n) => push_word(out, b"swept", u64::from(*n)),
         Outcome::Memory => out.extend_from_slice(b"memory"),
     }

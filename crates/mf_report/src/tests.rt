@@ -9,6 +9,8 @@ use mf_io::MemorySink;
 use mf_places::{Losses, Servers};
 use mf_plain::{Plain, PlainAccess};
 use mf_read::{LostNames, ReadOutcome};
+use mf_reclaim::{PinCounts, ReclaimOutcome};
+use mf_repair::RepairOutcome;
 use mf_script::{Act, Script, read_script};
 use mf_vault::{Book, Io, Name, Rest};
 use std::alloc::Global;
@@ -99,6 +101,17 @@ fn data_lost(alloc: Global) -> Result<Outcome, Fail> {
     }))
 }
 
+// A reclaim that met so many generations with pins.
+fn reclaimed(alloc: Global, many: usize) -> Result<Outcome, Fail> {
+    let all: [(u32, u32); 2] = [(0, 1), (1, 3)];
+    let pinned = Vec::from_slice(alloc, &all[..many])?;
+    Ok(Outcome::Reclaim(ReclaimOutcome::Reclaimed {
+        closed: 1,
+        dropped: 4,
+        pinned: PinCounts::new(pinned),
+    }))
+}
+
 #[test]
 fn each_outcome_has_its_text(rt: HostRuntime) -> Result<(), Fail> {
     let alloc = rt.alloc();
@@ -150,6 +163,30 @@ fn each_outcome_has_its_text(rt: HostRuntime) -> Result<(), Fail> {
         (Outcome::Released(0), "released 0"),
         (Outcome::NotHeld, "notheld"),
         (Outcome::Lost(2), "lost 2"),
+        (
+            Outcome::Repair(RepairOutcome::Repaired {
+                restored: 2,
+                skipped: 1
+            }),
+            "repaired 2 skipped 1"
+        ),
+        (Outcome::Repair(RepairOutcome::Busy), "busy"),
+        (
+            Outcome::Repair(RepairOutcome::Unreachable {
+                g: 0,
+                stripe: 1,
+                name: Name::Data(2),
+                server: 2,
+            }),
+            "unreachable gen 0 stripe 1 D2 server 2",
+        ),
+        (reclaimed(alloc, 0)?, "reclaimed closed 1 dropped 4 pinned -"),
+        (reclaimed(alloc, 1)?, "reclaimed closed 1 dropped 4 pinned 0:1"),
+        (
+            reclaimed(alloc, 2)?,
+            "reclaimed closed 1 dropped 4 pinned 0:1,1:3"
+        ),
+        (Outcome::Reclaim(ReclaimOutcome::Absent), "absent"),
         (Outcome::Swept(2), "swept 2"),
         (Outcome::Memory, "memory"),
     ]?;

@@ -169,6 +169,12 @@ acts_left line (act.Create file) o parts before after kept idle x = on_left (act
     kept idle x.1
 acts_left line (act.Read file away) o parts before after kept idle x =
     on_left (act.Read file away) o file before after kept idle x.1
+acts_left line (act.Repair file away) o parts before after kept idle x =
+    on_left (act.Repair file away) o file before after kept idle x.1
+acts_left line (act.Convert file away stop) o parts before after kept idle x =
+    on_left (act.Convert file away stop) o file before after kept idle x.1
+acts_left line (act.Reclaim file) o parts before after kept idle x =
+    on_left (act.Reclaim file) o file before after kept idle x.1
 acts_left line (act.Remove file) o parts before after kept idle x = on_left (act.Remove file) o file before after
     kept idle x.1
 acts_left line (act.Hold file) o parts before after kept idle x = on_left (act.Hold file) o file before after kept

@@ -1,6 +1,8 @@
 -- How the calls of an engine leave an actor.
 use Rattle.std.proofs.Common.{◌≡◌, ℕ, Bool, true, false, List, [], ◌∷◌, ◌++◌, refl, sym, ap, ◌∙◌, subst, inl, inr}
 use Rattle.std.proofs.Common.{◌⊎◌}
+use Rattle.mf_machine.specs.declared.answer.Closed.{Closed}
+use Rattle.mf_machine.specs.declared.answer.Closed.TheVariants as closed
 use Rattle.mf_machine.specs.declared.answer.Slot.TheVariants.{Work}
 use Rattle.mf_machine.specs.declared.answer.State.{State}
 use Rattle.mf_machine.specs.declared.answer.State.TheVariants as state
@@ -53,6 +55,9 @@ IsQuiet (put x) = Unit {0}
 IsQuiet (restore x) = Unit {0}
 IsQuiet (get x o) = Unit {0}
 IsQuiet (lose x l b) = Unit {0}
+IsQuiet (close g c) = Unit {0}
+IsQuiet (discard x b) = Unit {0}
+IsQuiet (publish next) = Unit {0}
 IsQuiet other = ⊥
 
 abbrev pub AreQuiet : List Call → Type 0
@@ -75,6 +80,15 @@ quiet_lose : (x : Name) (l : ℕ) (b : Bool) (a : Actor) → Stays a (did (lose 
 quiet_lose x l true a = record { right = refl; work = refl; hold = refl; facts = refl; cut = refl }
 quiet_lose x l false a = record { right = refl; work = refl; hold = refl; facts = refl; cut = refl }
 
+quiet_close : (g : ℕ) (c : Closed) (a : Actor) → Stays a (did (close g c) a)
+quiet_close g closed.Done a = record { right = refl; work = refl; hold = refl; facts = refl; cut = refl }
+quiet_close g (closed.Pins n) a = record { right = refl; work = refl; hold = refl; facts = refl; cut = refl }
+quiet_close g closed.Already a = record { right = refl; work = refl; hold = refl; facts = refl; cut = refl }
+
+quiet_discard : (x : Name) (b : Bool) (a : Actor) → Stays a (did (discard x b) a)
+quiet_discard x true a = record { right = refl; work = refl; hold = refl; facts = refl; cut = refl }
+quiet_discard x false a = record { right = refl; work = refl; hold = refl; facts = refl; cut = refl }
+
 quiet_one : (c : Call) (a : Actor) → IsQuiet c → Stays a (did c a)
 quiet_one (probe x s) a q = quiet_probe x s a
 quiet_one (put x) a q = record { right = refl; work = refl; hold = refl; facts = refl; cut = refl }
@@ -86,9 +100,9 @@ quiet_one (pin slot gs p) a q = absurd q
 quiet_one (unpin slot) a q = absurd q
 quiet_one (begin b) a q = absurd q
 quiet_one end a q = absurd q
-quiet_one (publish next) a q = absurd q
-quiet_one (close g c) a q = absurd q
-quiet_one (discard x b) a q = absurd q
+quiet_one (publish next) a q = record { right = refl; work = refl; hold = refl; facts = refl; cut = refl }
+quiet_one (close g c) a q = quiet_close g c a
+quiet_one (discard x b) a q = quiet_discard x b a
 
 pub quiet_all : (cs : List Call) (a : Actor) → AreQuiet cs → Stays a (did_all cs a)
 quiet_all [] a q = stays a
@@ -98,7 +112,7 @@ pub did_both : (cs ds : List Call) (a : Actor) → did_all (cs ++ ds) a ≡ did_
 did_both [] ds a = refl
 did_both (c ∷ cs) ds a = did_both cs ds (did c a)
 
-quiet_append : (cs ds : List Call) → AreQuiet cs → AreQuiet ds → AreQuiet (cs ++ ds)
+pub quiet_append : (cs ds : List Call) → AreQuiet cs → AreQuiet ds → AreQuiet (cs ++ ds)
 quiet_append [] ds p q = q
 quiet_append (c ∷ cs) ds p q = (p.0, quiet_append cs ds p.1 q)
 
@@ -121,10 +135,10 @@ quiet_brings (x ∷ xs) [] = tt
 quiet_brings (x ∷ xs) (s ∷ ss) = quiet_append (bring x s) (brings xs ss) (quiet_bring x s) (quiet_brings xs ss)
 
 -- the actor that has begun, and pinned the Work slot
-abbrev entered : List ℕ → Pinned → Actor → Actor
+abbrev pub entered : List ℕ → Pinned → Actor → Actor
 entered gs p a = did (pin Work gs p) (did (begin true) a)
 
-entered_work : (gs : List ℕ) (p : Pinned) (a : Actor) → IsIdle a
+pub entered_work : (gs : List ℕ) (p : Pinned) (a : Actor) → IsIdle a
     → (entered gs p a).view.work ≡ Rattle.mf_vault.specs.Licence.work_of_pin p 0
 entered_work gs p a idle = tried_work a.facts gs p (begun a.view)
     ∙ ap (Rattle.mf_vault.specs.Licence.work_of_pin p) idle.work
@@ -209,11 +223,11 @@ removes_leaves {a = a} x idle = subst (Leaves a) (sym x.does.becomes) (remove_le
 
 -- ---- read
 
-quiet_gets : (f : Facts) (asks : List Ask) → AreQuiet (gets f asks)
+pub quiet_gets : (f : Facts) (asks : List Ask) → AreQuiet (gets f asks)
 quiet_gets f [] = tt
 quiet_gets f (a ∷ asks) = (tt, quiet_gets f asks)
 
-quiet_cut : (f : Facts) (asks rest : List Ask) (cs : List Call) → ((cs ≡ gets f asks)
+pub quiet_cut : (f : Facts) (asks rest : List Ask) (cs : List Call) → ((cs ≡ gets f asks)
     ⊎ ((x : Name) × (others : List Ask) × (rest ≡ record { name = x; found = here } ∷ others)
     × (cs ≡ gets f asks ++ get x got.Memory ∷ []))) → AreQuiet cs
 quiet_cut f asks rest cs (inl e) = subst AreQuiet (sym e) (quiet_gets f asks)
@@ -267,7 +281,7 @@ through_leaves g inner cs a idle q (inr (free, (gs, is))) =
     })
 
 -- a pin that found no generation
-unpinned_leaves : (gs : List ℕ) (p : Pinned) (cs : List Call) (a : Actor) → IsIdle a
+pub unpinned_leaves : (gs : List ℕ) (p : Pinned) (cs : List Call) (a : Actor) → IsIdle a
     → Rattle.mf_vault.specs.Licence.work_of_pin p a.view.work ≡ a.view.work → cs ≡ pin Work gs p ∷ []
     → Leaves a (did_all cs a)
 unpinned_leaves gs p cs a idle none is = subst (λ l. Leaves a (did_all l a)) (sym is) (record {

@@ -1,4 +1,5 @@
 pub mod Leaving
+pub mod Parting
 pub mod Few
 pub mod Went
 pub mod Known

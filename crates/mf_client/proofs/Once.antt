@@ -1,5 +1,6 @@
 -- Where the whole state is told, a client's commands have one result.
-use Rattle.std.proofs.Common.{◌≡◌, ◌≢◌, ℕ, zero, suc, ◌+◌, Bool, true, false, List, [], ◌∷◌, length, filter}
+use Rattle.std.proofs.Common.{◌≡◌, ◌≢◌, ℕ, zero, suc, ◌+◌, ◌-◌, Option, Bool, true, false, List, [], ◌∷◌, length}
+use Rattle.std.proofs.Common.{filter}
 use Rattle.std.proofs.Common.{refl, sym, ap, ◌∙◌, subst, arith, Some, None, All}
 use Rattle.std.specs.Prelude.{slice_get, slice_set, Vec}
 use Rattle.std.specs.Global.{Global}
@@ -24,7 +25,16 @@ use Rattle.mf_convert.specs.declared.change.Change.{Change}
 use Rattle.mf_convert.specs.declared.change.Change.TheVariants as change
 use Rattle.mf_convert.specs.Create.{Creates}
 use Rattle.mf_convert.specs.Remove.{Removes}
+use Rattle.mf_convert.specs.Convert.{Converts}
 use Rattle.mf_convert.proofs.Once.{creates_once, removes_once}
+use Rattle.mf_convert.proofs.OnceConverted.{converts_once}
+use Rattle.mf_repair.specs.declared.outcome.RepairOutcome.{RepairOutcome}
+use Rattle.mf_repair.specs.Repair.{Repairs}
+use Rattle.mf_repair.proofs.OneRepair.{repairs_once}
+use Rattle.mf_reclaim.specs.declared.outcome.ReclaimOutcome.{ReclaimOutcome}
+use Rattle.mf_reclaim.specs.Reclaim.{Reclaims}
+use Rattle.mf_reclaim.proofs.Once.{reclaims_once}
+use Rattle.mf_vault.specs.Facts.{stages}
 use Rattle.mf_read.specs.declared.outcome.ReadOutcome.{ReadOutcome}
 use Rattle.mf_read.specs.declared.outcome.ReadOutcome.TheVariants as read
 use Rattle.mf_read.specs.Laws.{IsSame}
@@ -34,8 +44,9 @@ use Rattle.mf_client.specs.declared.done.Outcome.{Outcome}
 use Rattle.mf_client.specs.declared.done.Outcome.TheVariants as outcome
 use Rattle.mf_client.specs.declared.done.Part.{Part}
 use Rattle.mf_client.specs.declared.done.Place.{Place}
-use Rattle.mf_client.specs.Lacks.{change_lacks, read_lacks, outcome_lacks}
-use Rattle.mf_client.specs.Acts.{IsCreated, IsRefused, IsReadOut, IsRemoved, IsHeld, IsReleased, Pins, OnFile, ActsOn}
+use Rattle.mf_client.specs.Lacks.{change_lacks, read_lacks, repair_lacks, reclaim_lacks, outcome_lacks}
+use Rattle.mf_client.specs.Acts.{IsCreated, IsRefused, IsReadOut, IsRepaired, IsConverted, IsReclaimed, IsRemoved}
+use Rattle.mf_client.specs.Acts.{IsHeld, IsReleased, Pins, OnFile, ActsOn}
 use Rattle.mf_client.specs.Acts.{Acts, loses, LosesIn, LosesAll, IsLost, lists_on, away_of, cut_all}
 use Rattle.mf_client.specs.Steps.{Comes}
 use Rattle.mf_client.specs.Laws.{IsWhole, HadMemory, RunsOnce}
@@ -74,6 +85,47 @@ created_once : (o p : Outcome) (a b c : Actor) → IsWhole a → IsCreated o a b
 created_once (outcome.Change x) p a b c w m n had also = changed_once x p a b c w m n had also
 created_once outcome.Memory p a b c w m n had also = absurd (true_false had)
 created_once other p a b c w m n had also = absurd m
+
+-- ---- repair, convert and reclaim
+
+repaired_by : (x : RepairOutcome) (p : Outcome) (a b c : Actor) → IsWhole a → Repairs x a b → IsRepaired p a c
+    → repair_lacks x ≡ false → outcome_lacks p ≡ false → Same (outcome.Repair x) p b c
+repaired_by x (outcome.Repair y) a b c (w, e) m n had also =
+    let r = repairs_once a b c w x y e m n (λ z. true_false (sym (ap repair_lacks z) ∙ had))
+    (λ z. true_false (sym (ap repair_lacks z) ∙ also)) in
+    ((ap (λ z. outcome.Repair z) r.0), r.1)
+repaired_by x other a b c w m n had also = absurd n
+
+repaired_once : (o p : Outcome) (a b c : Actor) → IsWhole a → IsRepaired o a b → IsRepaired p a c
+    → outcome_lacks o ≡ false → outcome_lacks p ≡ false → Same o p b c
+repaired_once (outcome.Repair x) p a b c w m n had also = repaired_by x p a b c w m n had also
+repaired_once other p a b c w m n had also = absurd m
+
+converted_by : (stop : Option ℕ) (x : Change) (p : Outcome) (a b c : Actor) → IsWhole a
+    → Converts (stages a.facts - 1) stop x a b → IsConverted stop p a c
+    → change_lacks x ≡ false → outcome_lacks p ≡ false → Same (outcome.Change x) p b c
+converted_by stop x (outcome.Change y) a b c (w, e) m n had also =
+    let r = converts_once a b c w (stages a.facts - 1) stop x y e m n (had_change x had) (had_change y also) in
+    ((ap (λ z. outcome.Change z) r.0), r.1)
+converted_by stop x other a b c w m n had also = absurd n
+
+converted_once : (stop : Option ℕ) (o p : Outcome) (a b c : Actor) → IsWhole a → IsConverted stop o a b
+    → IsConverted stop p a c → outcome_lacks o ≡ false → outcome_lacks p ≡ false → Same o p b c
+converted_once stop (outcome.Change x) p a b c w m n had also = converted_by stop x p a b c w m n had also
+converted_once stop other p a b c w m n had also = absurd m
+
+reclaimed_by : (x : ReclaimOutcome) (p : Outcome) (a b c : Actor) → IsWhole a → Reclaims x a b → IsReclaimed p a c
+    → reclaim_lacks x ≡ false → outcome_lacks p ≡ false → Same (outcome.Reclaim x) p b c
+reclaimed_by x (outcome.Reclaim y) a b c (w, e) m n had also =
+    let r = reclaims_once a b c w x y e m n (λ z. true_false (sym (ap reclaim_lacks z) ∙ had))
+    (λ z. true_false (sym (ap reclaim_lacks z) ∙ also)) in
+    ((ap (λ z. outcome.Reclaim z) r.0), r.1)
+reclaimed_by x other a b c w m n had also = absurd n
+
+reclaimed_once : (o p : Outcome) (a b c : Actor) → IsWhole a → IsReclaimed o a b → IsReclaimed p a c
+    → outcome_lacks o ≡ false → outcome_lacks p ≡ false → Same o p b c
+reclaimed_once (outcome.Reclaim x) p a b c w m n had also = reclaimed_by x p a b c w m n had also
+reclaimed_once other p a b c w m n had also = absurd m
 
 -- ---- remove
 
@@ -306,6 +358,15 @@ acts_once line (act.Create file) o p ps qs before after others w x y had also =
 acts_once line (act.Read file away) o p ps qs before after others w x y had also =
     on_once file (IsReadOut o) (IsReadOut p) o p ps qs before after others
     (λ a b c i m n. read_once o p a b c i m n had also) w x y
+acts_once line (act.Repair file away) o p ps qs before after others w x y had also =
+    on_once file (IsRepaired o) (IsRepaired p) o p ps qs before after others
+    (λ a b c i m n. repaired_once o p a b c i m n had also) w x y
+acts_once line (act.Convert file away stop) o p ps qs before after others w x y had also =
+    on_once file (IsConverted stop o) (IsConverted stop p) o p ps qs before after others
+    (λ a b c i m n. converted_once stop o p a b c i m n had also) w x y
+acts_once line (act.Reclaim file) o p ps qs before after others w x y had also =
+    on_once file (IsReclaimed o) (IsReclaimed p) o p ps qs before after others
+    (λ a b c i m n. reclaimed_once o p a b c i m n had also) w x y
 acts_once line (act.Remove file) o p ps qs before after others w x y had also =
     on_once file (IsRemoved o) (IsRemoved p) o p ps qs before after others
     (λ a b c i m n. removed_once o p a b c i m n) w x y
@@ -354,6 +415,12 @@ acts_whole : (line : ℕ) (x : Act) (o : Outcome) (parts : List Part) (before af
     → Acts line x o parts before after → All IsWhole after
 acts_whole line (act.Create file) o parts before after w x = on_whole (act.Create file) o file before after w x.1
 acts_whole line (act.Read file away) o parts before after w x = on_whole (act.Read file away) o file before after w x.1
+acts_whole line (act.Repair file away) o parts before after w x =
+    on_whole (act.Repair file away) o file before after w x.1
+acts_whole line (act.Convert file away stop) o parts before after w x =
+    on_whole (act.Convert file away stop) o file before after w x.1
+acts_whole line (act.Reclaim file) o parts before after w x =
+    on_whole (act.Reclaim file) o file before after w x.1
 acts_whole line (act.Remove file) o parts before after w x = on_whole (act.Remove file) o file before after w x.1
 acts_whole line (act.Hold file) o parts before after w x = on_whole (act.Hold file) o file before after w x.1
 acts_whole line (act.Release file) o parts before after w x = on_whole (act.Release file) o file before after w x.1

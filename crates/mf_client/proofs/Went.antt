@@ -1,5 +1,5 @@
 -- What a command on one file leaves of the file's actor.
-use Rattle.std.proofs.Common.{◌≡◌, ℕ, ◌+◌, ◌^◌, ◌<◌, List, [], ◌∷◌, length}
+use Rattle.std.proofs.Common.{◌≡◌, ℕ, ◌+◌, ◌^◌, ◌<◌, List, [], ◌∷◌, length, Option}
 use Rattle.std.proofs.Common.{refl, sym, ap, ◌∙◌, subst, arith, drop}
 use Rattle.std.proofs.Math.Seq.{drop-append_seam}
 use Rattle.mf_machine.specs.declared.answer.Slot.TheVariants.{Hold}
@@ -21,11 +21,16 @@ use Rattle.mf_read.specs.declared.outcome.ReadOutcome.TheVariants as read
 use Rattle.mf_read.specs.Reading.{Reads}
 use Rattle.mf_client.specs.declared.done.Outcome.{Outcome}
 use Rattle.mf_client.specs.declared.done.Outcome.TheVariants as outcome
-use Rattle.mf_client.specs.Acts.{IsCreated, IsRefused, IsReadOut, IsRemoved, IsHeld, IsReleased, Pins}
+use Rattle.mf_client.specs.Acts.{IsCreated, IsRefused, IsReadOut, IsRepaired, IsConverted, IsReclaimed, IsRemoved}
+use Rattle.mf_client.specs.Acts.{IsHeld, IsReleased, Pins}
 use Rattle.mf_client.specs.Laws.{IsWhole}
 use Rattle.mf_client.specs.Runs.{gained}
 use Rattle.mf_client.specs.Steps.{Comes}
 use Rattle.mf_client.proofs.Leaving.{creates_leaves, removes_leaves, reads_leaves}
+use Rattle.mf_client.proofs.Parting.{repairs_leaves, reclaims_leaves, converts_leaves}
+use Rattle.mf_repair.proofs.Bounded.{entries_few as repairs_few}
+use Rattle.mf_reclaim.proofs.Few.{entries_few as reclaims_few}
+use Rattle.mf_convert.proofs.Fewer.{entries_few as converts_few}
 use Rattle.mf_client.proofs.Few.{creates_few, removes_few, reads_few}
 
 -- few calls led from one actor to the other, and it is idle
@@ -89,6 +94,34 @@ read_went (outcome.Refused refused) {a = a} {b = b} book idle x =
     reads_went refused book idle (refused_reads refused a b x)
 read_went other book idle x = absurd x
 
+repaired_went : (o : Outcome) {a b : Actor} → IsBook a.facts.book → IsIdle a → IsRepaired o a b → Went a b
+repaired_went (outcome.Repair repair) book idle x = record {
+  calls = x.calls;
+  does = x.does;
+  few = repairs_few book x;
+  idle = (repairs_leaves x idle).idle;
+}
+repaired_went other book idle x = absurd x
+
+converted_went : (stop : Option ℕ) (o : Outcome) {a b : Actor} → IsBook a.facts.book → IsIdle a → IsConverted stop o a b
+    → Went a b
+converted_went stop (outcome.Change change) book idle x = record {
+  calls = x.calls;
+  does = x.does;
+  few = converts_few book x;
+  idle = (converts_leaves x idle).idle;
+}
+converted_went stop other book idle x = absurd x
+
+reclaimed_went : (o : Outcome) {a b : Actor} → IsBook a.facts.book → IsIdle a → IsReclaimed o a b → Went a b
+reclaimed_went (outcome.Reclaim reclaim) book idle x = record {
+  calls = x.calls;
+  does = x.does;
+  few = reclaims_few book x;
+  idle = (reclaims_leaves x idle).idle;
+}
+reclaimed_went other book idle x = absurd x
+
 removed_went : (o : Outcome) {a b : Actor} → IsIdle a → IsRemoved o a b → Went a b
 removed_went (outcome.Change change) idle x = record {
   calls = x.calls;
@@ -118,6 +151,9 @@ released_went other idle x = absurd x
 pub comes_went : (x : Act) (o : Outcome) {a b : Actor} → IsBook a.facts.book → IsIdle a → Comes x o a b → Went a b
 comes_went (act.Create file) o book idle x = created_went o book idle x
 comes_went (act.Read file away) o book idle x = read_went o book idle x
+comes_went (act.Repair file away) o book idle x = repaired_went o book idle x
+comes_went (act.Convert file away stop) o book idle x = converted_went stop o book idle x
+comes_went (act.Reclaim file) o book idle x = reclaimed_went o book idle x
 comes_went (act.Remove file) o book idle x = removed_went o idle x
 comes_went (act.Hold file) o book idle x = held_went o idle x
 comes_went (act.Release file) o book idle x = released_went o idle x
@@ -147,6 +183,18 @@ read_does (outcome.Bytes g count from digest) (bytes, x, long, is) = (x.0, x.2)
 read_does (outcome.Refused refused) {a = a} {b = b} x = let r = refused_reads refused a b x in (r.0, r.2)
 read_does other x = absurd x
 
+repaired_does : (o : Outcome) {a b : Actor} → IsRepaired o a b → (cs : List Call) × Does cs a b
+repaired_does (outcome.Repair repair) x = (x.calls, x.does)
+repaired_does other x = absurd x
+
+converted_does : (stop : Option ℕ) (o : Outcome) {a b : Actor} → IsConverted stop o a b → (cs : List Call) × Does cs a b
+converted_does stop (outcome.Change change) x = (x.calls, x.does)
+converted_does stop other x = absurd x
+
+reclaimed_does : (o : Outcome) {a b : Actor} → IsReclaimed o a b → (cs : List Call) × Does cs a b
+reclaimed_does (outcome.Reclaim reclaim) x = (x.calls, x.does)
+reclaimed_does other x = absurd x
+
 removed_does : (o : Outcome) {a b : Actor} → IsRemoved o a b → (cs : List Call) × Does cs a b
 removed_does (outcome.Change change) x = (x.calls, x.does)
 removed_does other x = absurd x
@@ -166,6 +214,9 @@ released_does other x = absurd x
 pub comes_does : (x : Act) (o : Outcome) {a b : Actor} → Comes x o a b → (cs : List Call) × Does cs a b
 comes_does (act.Create file) o x = created_does o x
 comes_does (act.Read file away) o x = read_does o x
+comes_does (act.Repair file away) o x = repaired_does o x
+comes_does (act.Convert file away stop) o x = converted_does stop o x
+comes_does (act.Reclaim file) o x = reclaimed_does o x
 comes_does (act.Remove file) o x = removed_does o x
 comes_does (act.Hold file) o x = held_does o x
 comes_does (act.Release file) o x = released_does o x

@@ -1,5 +1,6 @@
 -- What one command does.
-use Rattle.std.specs.Prelude.{◌≡◌, ℕ, ◌+◌, Bool, List, [], ◌∷◌, length, map, filter, slice_get, slice_set, Some}
+use Rattle.std.specs.Prelude.{◌≡◌, ℕ, ◌+◌, ◌-◌, Bool, List, [], ◌∷◌, length, map, filter, slice_get, slice_set}
+use Rattle.std.specs.Prelude.{Option, Some}
 use Rattle.std.specs.declared.vec.Vec.{Vec}
 use Rattle.std.specs.declared.alloc.Global.{Global}
 use Rattle.sha2.specs.Sha256.{sha256}
@@ -13,14 +14,17 @@ use Rattle.mf_lines.specs.declared.parts.Act.{Act}
 use Rattle.mf_lines.specs.declared.parts.Act.TheVariants as act
 use Rattle.mf_vault.specs.declared.answers.Pinned.{Pinned}
 use Rattle.mf_vault.specs.declared.answers.Pinned.TheVariants as pinned
-use Rattle.mf_vault.specs.Facts.{Facts}
+use Rattle.mf_vault.specs.Facts.{Facts, stages}
 use Rattle.mf_vault.specs.Actor.{Actor, Call, did, cut_off, pin, unpin, lose}
 use Rattle.mf_vault.specs.Licence.{Does}
 use Rattle.mf_convert.specs.Create.{Creates}
+use Rattle.mf_convert.specs.Convert.{Converts}
 use Rattle.mf_convert.specs.Remove.{Removes}
 use Rattle.mf_read.specs.declared.outcome.ReadOutcome.{ReadOutcome}
 use Rattle.mf_read.specs.declared.outcome.ReadOutcome.TheVariants as read
 use Rattle.mf_read.specs.Reading.{Reads}
+use Rattle.mf_repair.specs.Repair.{Repairs}
+use Rattle.mf_reclaim.specs.Reclaim.{Reclaims}
 use Rattle.mf_client.specs.declared.done.Outcome.{Outcome}
 use Rattle.mf_client.specs.declared.done.Outcome.TheVariants as outcome
 use Rattle.mf_client.specs.declared.done.Part.{Part}
@@ -30,6 +34,8 @@ use Rattle.mf_client.specs.declared.done.Part.{Part}
 -- those that a command names
 abbrev pub away_of : Act → Servers
 away_of (act.Read file away) = away
+away_of (act.Repair file away) = away
+away_of (act.Convert file away stop) = away
 away_of any_other = no_servers
 
 -- they are cut off in all files
@@ -55,6 +61,21 @@ IsReadOut (outcome.Bytes g count from digest) a b = (bytes : Vec ℕ Global) × 
     × (count ≡ length bytes.items) × (digest ≡ sha256 bytes.items)
 IsReadOut (outcome.Refused refused) a b = IsRefused refused a b
 IsReadOut other a b = ⊥
+
+-- a repair
+abbrev pub IsRepaired : Outcome → Actor → Actor → Type 0
+IsRepaired (outcome.Repair repair) a b = Repairs repair a b
+IsRepaired other a b = ⊥
+
+-- a conversion by one stage, unless the file is in its last, with the number of operations behind which it stops
+abbrev pub IsConverted : (stop : Option ℕ) → Outcome → Actor → Actor → Type 0
+IsConverted stop (outcome.Change change) a b = Converts (stages a.facts - 1) stop change a b
+IsConverted stop other a b = ⊥
+
+-- a reclaim
+abbrev pub IsReclaimed : Outcome → Actor → Actor → Type 0
+IsReclaimed (outcome.Reclaim reclaim) a b = Reclaims reclaim a b
+IsReclaimed other a b = ⊥
 
 -- a remove
 abbrev pub IsRemoved : Outcome → Actor → Actor → Type 0
@@ -133,6 +154,9 @@ ActsOn file Goes parts before after = (parts ≡ []) × OnFile file Goes before 
 abbrev pub Acts : (line : ℕ) → Act → Outcome → List Part → List Actor → List Actor → Type 0
 Acts line (act.Create file) came parts before after = ActsOn file (IsCreated came) parts before after
 Acts line (act.Read file away) came parts before after = ActsOn file (IsReadOut came) parts before after
+Acts line (act.Repair file away) came parts before after = ActsOn file (IsRepaired came) parts before after
+Acts line (act.Convert file away stop) came parts before after = ActsOn file (IsConverted stop came) parts before after
+Acts line (act.Reclaim file) came parts before after = ActsOn file (IsReclaimed came) parts before after
 Acts line (act.Remove file) came parts before after = ActsOn file (IsRemoved came) parts before after
 Acts line (act.Hold file) came parts before after = ActsOn file (IsHeld came) parts before after
 Acts line (act.Release file) came parts before after = ActsOn file (IsReleased came) parts before after

@@ -14,13 +14,17 @@ use Rattle.mf_vault.specs.May.{MayLose}
 use Rattle.mf_client.specs.declared.done.Outcome.{Outcome}
 use Rattle.mf_client.specs.declared.done.Done.{Done}
 use Rattle.mf_client.specs.Clients.{AreFiles, facts_in, commands_of}
-use Rattle.mf_client.specs.Acts.{IsCreated, IsReadOut, IsRemoved, IsHeld, IsReleased}
+use Rattle.mf_client.specs.Acts.{IsCreated, IsReadOut, IsRepaired, IsConverted, IsReclaimed}
+use Rattle.mf_client.specs.Acts.{IsRemoved, IsHeld, IsReleased}
 use Rattle.mf_client.specs.Runs.{RunsFrom, IsSmall}
 
 -- what came of a command on one file
 abbrev pub Comes : Act → Outcome → Actor → Actor → Type 0
 Comes (act.Create file) came = IsCreated came
 Comes (act.Read file away) came = IsReadOut came
+Comes (act.Repair file away) came = IsRepaired came
+Comes (act.Convert file away stop) came = IsConverted stop came
+Comes (act.Reclaim file) came = IsReclaimed came
 Comes (act.Remove file) came = IsRemoved came
 Comes (act.Hold file) came = IsHeld came
 Comes (act.Release file) came = IsReleased came

@@ -6,11 +6,14 @@ ghost use Rattle.mf_machine.specs.declared.answer.Slot.TheVariants.{Work};
 ghost use Rattle.mf_places.specs.Servers.{no_servers};
 ghost use Rattle.mf_script.specs.Contents.{bytes_in};
 ghost use Rattle.mf_vault.specs.Conditions.{IsIdle, IsOfFamily};
-ghost use Rattle.mf_client.specs.Acts.{IsCreated, IsReadOut, IsRemoved, IsHeld, IsReleased};
+ghost use Rattle.mf_client.specs.Acts.{IsCreated, IsReadOut, IsRepaired, IsConverted};
+ghost use Rattle.mf_client.specs.Acts.{IsReclaimed, IsRemoved, IsHeld, IsReleased};
 
 use crate::done::Outcome;
-use mf_convert::{create, remove};
+use mf_convert::{convert, create, remove};
 use mf_read::{Family, ReadOutcome, read};
+use mf_reclaim::reclaim;
+use mf_repair::repair;
 use mf_script::{Content, content_bytes};
 use mf_vault::{Fetch, Pinned, Slot};
 use sha2::{Digest, Sha256};
@@ -61,6 +64,40 @@ pub(crate) fn read_file<A: Fetch>(alloc: Global, access: &mut A, family: &Family
         },
         refused => Outcome::Refused(refused),
     }
+}
+
+// Repairs the file.
+pub(crate) fn repair_file<A: Fetch>(alloc: Global, access: &mut A, family: &Family) -> Outcome
+    requires idle { IsIdle (A.actor access.old) }
+    requires family { IsOfFamily family.now.shape family.now.points
+        (A.actor access.old).facts.book }
+    ensures { IsRepaired result (A.actor access.old) (A.actor access.new) }
+{
+    Outcome::Repair(repair(alloc, access, family))
+}
+
+// Converts the file to its next stage, unless it is in its last.
+pub(crate) fn convert_file<A: Fetch>(
+    alloc: Global,
+    access: &mut A,
+    family: &Family,
+    stop: Option<u32>,
+) -> Outcome
+    requires idle { IsIdle (A.actor access.old) }
+    requires family { IsOfFamily family.now.shape family.now.points
+        (A.actor access.old).facts.book }
+    ensures { IsConverted stop result (A.actor access.old) (A.actor access.new) }
+{
+    let last = access.book().stages() - 1;
+    Outcome::Change(convert(alloc, access, family, last, stop))
+}
+
+// Closes what isn't published any more, and drops what only closed generations hold.
+pub(crate) fn reclaim_file<A: Fetch>(alloc: Global, access: &mut A) -> Outcome
+    requires idle { IsIdle (A.actor access.old) }
+    ensures { IsReclaimed result (A.actor access.old) (A.actor access.new) }
+{
+    Outcome::Reclaim(reclaim(alloc, access))
 }
 
 // Removes the file.

@@ -13,7 +13,10 @@ ghost use Rattle.mf_client.specs.Clients.{HasClient, AreFiles, facts_in};
 ghost use Rattle.mf_client.specs.Runs.{Runs, IsSmall, IsDone, gained, io_gained};
 ghost use Rattle.mf_client.specs.Steps.{Comes, Finds};
 
-use crate::acting::{create_file, hold_file, read_file, release_file, remove_file};
+use crate::acting::{
+    convert_file, create_file, hold_file, read_file, reclaim_file, release_file, remove_file,
+    repair_file,
+};
 use crate::done::{Done, Outcome, Parts, Place};
 use crate::finding::commands_of;
 use crate::losing::lose_server;
@@ -77,6 +80,9 @@ fn act_on<A: Fetch>(
     match act {
         Act::Create(_) => create_file(alloc, access, family, content),
         Act::Read { .. } => read_file(alloc, access, family),
+        Act::Repair { .. } => repair_file(alloc, access, family),
+        Act::Convert { stop, .. } => convert_file(alloc, access, family, stop),
+        Act::Reclaim(_) => reclaim_file(alloc, access),
         Act::Remove(_) => remove_file(access),
         Act::Hold(_) => hold_file(access),
         Act::Release(_) => release_file(access),
@@ -140,6 +146,9 @@ fn act<A: Fetch>(alloc: Global, accesses: &mut [A], script: &Script, command: Co
     match command.act {
         Act::Create(file)
         | Act::Read { file, .. }
+        | Act::Repair { file, .. }
+        | Act::Convert { file, .. }
+        | Act::Reclaim(file)
         | Act::Remove(file)
         | Act::Hold(file)
         | Act::Release(file) => on_numbered(alloc, accesses, script, command, file),
@@ -155,7 +164,7 @@ fn away_of(act: Act) -> Servers
     ensures { result ≡ away_of act }
 {
     match act {
-        Act::Read { away, .. } => away,
+        Act::Read { away, .. } | Act::Repair { away, .. } | Act::Convert { away, .. } => away,
         _ => Servers::none(),
     }
 }

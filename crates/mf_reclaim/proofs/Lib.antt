@@ -1,6 +1,6 @@
 mod Closings
 mod Discards
 mod Learning
-mod Once
+pub mod Once
 pub mod Few
 mod Pinned

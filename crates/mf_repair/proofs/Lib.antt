@@ -8,4 +8,4 @@ mod Telling
 mod Placed
 pub mod Bounded
 mod Mended
-mod OneRepair
+pub mod OneRepair

@@ -75,7 +75,7 @@ long_input (Some x) (Some y) limit read e n = (x, refl, omega (arith, ap length 
 -- ---- the report of a run
 
 report_answer : (text : List ℕ) (s : Script) (done : List Done) (files : List Resting) → IsRun text s done files
-    → (status : ℕ) × IsAnswer (task_words Run) text status (report_text s done)
+    → (status : ℕ) × IsAnswer (task_words Run) text status (report_text s done files)
 report_answer text s done files run =
     elim (cases_Bool (list_any lacks_memory done)) [
       | inl lacks ↦ (5, lacked s done files run lacks)
@@ -83,20 +83,21 @@ report_answer text s done files run =
     ]
 
 -- it was written whole
-pub ran : (o : Output) (text : List ℕ) (s : Script) (done mine yours : List Done) (files : List Resting)
+pub ran : (o : Output) (text : List ℕ) (s : Script) (done mine yours : List Done) (files theirs : List Resting)
     (status : Status)
-    → IsRun text s done files → mine ≡ done → yours ≡ done → Appends o.written o.written_now (report_text s mine)
+    → IsRun text s done files → mine ≡ done → theirs ≡ files → yours ≡ done
+    → Appends o.written o.written_now (report_text s mine theirs)
     → o.faults_now ≡ o.faults
     → status ≡ (if list_any lacks_memory yours then Memory else ended.Done) → Writes o (task_words Run) text status
-ran o text s done mine yours files status run first second appended held is =
-    let app : Appends o.written o.written_now (report_text s done) =
-    subst (λ d. Appends o.written o.written_now (report_text s d)) first appended in
+ran o text s done mine yours files theirs status run first rests second appended held is =
+    let app : Appends o.written o.written_now (report_text s done files) =
+    subst (Appends o.written o.written_now) (λ i. report_text s (first i) (rests i)) appended in
     elim (cases_Bool (list_any lacks_memory done)) [
       | inl lacks ↦
           let at : status ≡ Memory =
           is ∙ ap (λ d. cond (list_any lacks_memory d) Memory ended.Done) second ∙ cond-true _ _ _ lacks in
           subst (Writes o (task_words Run) text) (sym at) (inr (record {
-            bytes = report_text s done;
+            bytes = report_text s done files;
             answer = lacked s done files run lacks;
             written = app;
             held = held;
@@ -105,7 +106,7 @@ ran o text s done mine yours files status run first second appended held is =
           let at : status ≡ ended.Done =
           is ∙ ap (λ d. cond (list_any lacks_memory d) Memory ended.Done) second ∙ cond-false _ _ _ fine in
           subst (Writes o (task_words Run) text) (sym at) (record {
-            bytes = report_text s done;
+            bytes = report_text s done files;
             answer = reported s done files run fine;
             written = app;
             held = held;
@@ -113,16 +114,17 @@ ran o text s done mine yours files status run first second appended held is =
     ]
 
 -- a write of it failed
-pub ran_front : (o : Output) (text : List ℕ) (s : Script) (done mine : List Done) (files : List Resting)
-    → IsRun text s done files → mine ≡ done
-    → Leaves fault.Sink (report_text s mine) o.written o.written_now o.faults o.faults_now
+pub ran_front : (o : Output) (text : List ℕ) (s : Script) (done mine : List Done) (files theirs : List Resting)
+    → IsRun text s done files → mine ≡ done → theirs ≡ files
+    → Leaves fault.Sink (report_text s mine theirs) o.written o.written_now o.faults o.faults_now
     → WritesFront o (task_words Run) text
-ran_front o text s done mine files run first left =
-    let w = subst (λ d. Leaves fault.Sink (report_text s d) o.written o.written_now o.faults o.faults_now) first left in
+ran_front o text s done mine files theirs run first rests left =
+    let w = subst (λ t. Leaves fault.Sink t o.written o.written_now o.faults o.faults_now)
+    (λ i. report_text s (first i) (rests i)) left in
     let answer = report_answer text s done files run in
     record {
       status = answer.0;
-      bytes = report_text s done;
+      bytes = report_text s done files;
       count = w.1;
       answer = answer.1;
       within = w.2;

@@ -36,7 +36,8 @@ use Rattle.mf_lines.specs.Meaning.{SoFar, Script, so_before, so_with, so_of, wit
 use Rattle.mf_lines.specs.Meaning.{client_with, with_command, names_in, last_clients, first_word}
 use Rattle.mf_lines.specs.Lines.{is_above, numbers_in, points_in, points_form, stage_form, within, chunk_form}
 use Rattle.mf_lines.specs.Lines.{has_name, content_in, content_length, starts_high}
-use Rattle.mf_lines.specs.Lines.{command_fits, server_operand}
+use Rattle.mf_lines.specs.Lines.{command_fits, server_operand, away_words, servers_in, away_operands, file_number}
+use Rattle.mf_places.specs.declared.servers.Servers.{Servers}
 use Rattle.mf_lines.specs.Lines.{file_limits, file_form, file_operand, act_in, form_in, may_follow_command, may_follow}
 use Rattle.mf_lines.specs.Lines.{later_form, placed, form_at}
 use Rattle.mf_lines.specs.Names.{is_name}
@@ -154,12 +155,25 @@ server_few so ws n e =
     let c = bound (command_fits so) _ n b.next in
     fits_few so c.value c.is
 
+away_few : (so : SoFar) (ws : List (List ℕ)) (two : ℕ × Servers) → away_operands so ws ≡ Ok two → so.commands < 1024
+away_few so ws two e =
+    let a = bound (away_words ws) _ two e in
+    let b = bound (servers_in so a.value.1) _ two a.next in
+    let c = bound (numbers_in a.value.1) _ b.value b.is in
+    let rest : List (Bool × LimitName) = (leb 1024 so.commands, limit.Commands) ∷ [] in
+    let d = bound (within ((list_any (is_above 4294967295) c.value, limit.Number) ∷ rest)) _ b.value c.next in
+    let few = kept (list_any (is_above 4294967295) c.value) limit.Number rest d.value d.is in
+    leb-false 1024 so.commands (kept (leb 1024 so.commands) limit.Commands [] d.value few.1).0
+
 act_few : (so : SoFar) (v : Verb) (ws : List (List ℕ)) (read : Act) → act_in so v ws ≡ Ok read → so.commands < 1024
 act_few so verb.Lose ws read e =
     let a = bound (server_operand so ws) (λ server. Ok (act.Lose server)) read e in server_few so ws a.value a.is
 act_few so verb.Create ws read e =
     let a = bound (file_operand so ws) (λ file. Ok (act.Create file)) read e in operand_few so ws a.value a.is
-act_few so verb.Read ws read e = let a = bound (file_operand so ws) _ read e in operand_few so ws a.value a.is
+act_few so verb.Read ws read e = let a = bound (away_operands so ws) _ read e in away_few so ws a.value a.is
+act_few so verb.Repair ws read e = let a = bound (away_operands so ws) _ read e in away_few so ws a.value a.is
+act_few so verb.Convert ws read e = let a = bound (away_operands so ws) _ read e in away_few so ws a.value a.is
+act_few so verb.Reclaim ws read e = let a = bound (file_operand so ws) _ read e in operand_few so ws a.value a.is
 act_few so verb.Hold ws read e = let a = bound (file_operand so ws) _ read e in operand_few so ws a.value a.is
 act_few so verb.Release ws read e = let a = bound (file_operand so ws) _ read e in operand_few so ws a.value a.is
 act_few so verb.Remove ws read e = let a = bound (file_operand so ws) _ read e in operand_few so ws a.value a.is
@@ -222,6 +236,13 @@ local so (word.Command v) ws form e =
     let a = bound (act_in so v ws) (λ act. Ok (says.Command act)) form e in
     let is : says.Command a.value ≡ form = let n = a.next in cc in
     subst (Local so) is (act_few so v ws a.value a.is)
+local so word.Dump ws form e =
+    let a = bound (one_word ws) _ form e in
+    let b = bound (ok_or (file_number (names_in so.script.files) a.value) kind.NoFile) _ form a.next in
+    let c = bound (refuse (list_any (λ other. eqb b.value other) so.script.dumps) kind.Twice) (λ _. Ok
+    (says.Dump b.value))
+    form b.next in
+    let is : says.Dump b.value ≡ form = let n = c.next in cc in subst (Local so) is tt
 local so word.End ws form e =
     let a = bound (no_words ws) (λ _. Ok says.End) form e in
     let is : says.End ≡ form = let n = a.next in cc in subst (Local so) is tt
@@ -405,6 +426,7 @@ in_client so last says.Phase e own chunk files items =
 in_client so last (says.Command act) e own chunk files items =
     record { chunk = chunk; files = files; items = command_added _ so.script.items items }
 in_client so last says.End e own chunk files items = record { chunk = chunk; files = files; items = items }
+in_client so last (says.Dump file) e own chunk files items = record { chunk = chunk; files = files; items = items }
 in_client so last form e own chunk files items = absurd cc
 
 kept_more : (so : SoFar) (last : LineWord) (form : Form) → may_follow last (first_word form) ≡ true → Local so form
@@ -431,6 +453,9 @@ kept_more so word.File (says.File f) e own h =
 kept_more so word.File says.Phase e own h =
     record { chunk = h.chunk; files = h.files; items = phase_added so.script.items h.items }
 kept_more so word.File says.End e own h = record { chunk = h.chunk; files = h.files; items = h.items }
+kept_more so word.File (says.Dump file) e own h = record { chunk = h.chunk; files = h.files; items = h.items }
+kept_more so word.Dump (says.Dump file) e own h = record { chunk = h.chunk; files = h.files; items = h.items }
+kept_more so word.Dump says.End e own h = record { chunk = h.chunk; files = h.files; items = h.items }
 kept_more so word.Phase says.Client e own h =
     record { chunk = h.chunk; files = h.files; items = client_added so.script.items h.items }
 kept_more so word.Client form e own h = in_client so word.Client form e own h.chunk h.files h.items

@@ -96,7 +96,7 @@ record Ran (words : List (List ℕ)) (text : List ℕ) (m : ℕ) (x : List ℕ) 
   asks : words ≡ task_words Run
   run : IsRun text script done files
   status : ((m ≡ 0) × (list_any lacks_memory done ≡ false)) ⊎ (m ≡ 5)
-  is : x ≡ report_text script done
+  is : x ≡ report_text script done files
 
 record Tried (words : List (List ℕ)) (text : List ℕ) (m : ℕ) (x : List ℕ) : Type 0 where
   script : Script
@@ -181,7 +181,7 @@ runs_alike words text m n x y a b one other =
     let mine : IsPlainRun b.script a.done a.files = subst (λ s. IsPlainRun s a.done a.files) script a.run.run in
     let same = runs_once b.script _ a.done b.done a.files b.files mine b.run.run (none_lacks a.done fine_a.1)
     (none_lacks b.done fine_b.1) in
-    (fine_a.0 ∙ sym fine_b.0, inl (a.is ∙ (λ i. report_text (script i) (same.0 i)) ∙ sym b.is))
+    (fine_a.0 ∙ sym fine_b.0, inl (a.is ∙ (λ i. report_text (script i) (same.0 i) (same.1 i)) ∙ sym b.is))
 
 faults_alike : (words : List (List ℕ)) (text : List ℕ) (m n : ℕ) (x y : List ℕ) → Faulty words text m x
     → Faulty words text n y → SameAnswer m n x y

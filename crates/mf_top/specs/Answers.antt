@@ -43,9 +43,9 @@ pub record IsRun (text : List ℕ) (s : Script) (done : List Done) (files : List
 -- its fault. Other words have the line that refuses them, whatever the text is.
 pub data IsAnswer : List (List ℕ) → List ℕ → ℕ → List ℕ → Type 0 where
   reported : {text : List ℕ} (s : Script) (done : List Done) (files : List Resting) → IsRun text s done files
-      → list_any lacks_memory done ≡ false → IsAnswer (task_words Run) text 0 (report_text s done)
+      → list_any lacks_memory done ≡ false → IsAnswer (task_words Run) text 0 (report_text s done files)
   lacked : {text : List ℕ} (s : Script) (done : List Done) (files : List Resting) → IsRun text s done files
-      → list_any lacks_memory done ≡ true → IsAnswer (task_words Run) text 5 (report_text s done)
+      → list_any lacks_memory done ≡ true → IsAnswer (task_words Run) text 5 (report_text s done files)
   accepted : {text : List ℕ} (s : Script) → IsScript text s
       → IsAnswer (task_words Check) text 0 (accepted_text (main_of s).stages)
   refused : {text : List ℕ} (task : Task) (fault : ScriptFault) → IsRefused text fault

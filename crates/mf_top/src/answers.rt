@@ -82,7 +82,7 @@ fn answer_run<K: Sink, T: Turnstile>(
     let Ok(ran) = run(alloc, script, turnstile) else {
         return Status::Memory;
     };
-    match report(alloc, sink, script, &ran.done) {
+    match report(alloc, sink, script, &ran.done, &ran.files) {
         Ok(()) => status_of(&ran.done),
         Err(ReportFault::Sink) => Status::SinkFault,
         Err(ReportFault::Memory) => Status::Memory,

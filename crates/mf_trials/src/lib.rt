@@ -1,9 +1,11 @@
 //! Trials across crates: what the calls of the codes answer, beside plain loops over carry-less
-//! products, and a file that its only actor creates and reads. There are only tests.
+//! products, and a file that its only actor creates, reads and converts. There are only tests.
 #![tactic(auto)]
 
 #[cfg(test)]
 mod books;
+#[cfg(test)]
+mod conversions;
 #[cfg(test)]
 mod engines;
 #[cfg(test)]

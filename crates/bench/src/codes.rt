@@ -1,9 +1,8 @@
 //! The least time of a code, in nanoseconds.
 ghost use Rattle.std.specs.Prelude.{◌≡◌, ◌≤◌, All, IfOk, IfSome, length};
-ghost use Rattle.mf_decode.specs.Decoding.{gaps_from};
 
 use anyhow::{Result, bail};
-use mf_decode::{apply, plan};
+use mf_decode::{apply, gaps_of, plan};
 use mf_erasure::is_erasure;
 use mf_kernel::{Chunk, Memory};
 use mf_merge::merge;
@@ -63,37 +62,65 @@ pub fn least_merging<R: Clock + AllocGlobal>(
     Ok(least)
 }
 
-/// The time of decoding the erased chunks of a stripe from its other pieces and as many parities, by
-/// a plan that is there already.
+/// The time of decoding the first `lost` chunks of a stripe from its other pieces and as many
+/// parities, by a plan that is there already.
 pub fn least_decoding<R: Clock + AllocGlobal>(
     rt: &R,
     turns: Turns,
-    erased: &[u32],
-    pieces: &[Option<Chunk>],
+    width: u32,
+    lost: u32,
     size: u32,
 ) -> Result<u64>
-    requires some { 1 ≤ length pieces.now }
-    requires at_most { length pieces.now ≤ 64 }
-    requires gaps { gaps_from 0 pieces.now ≡ erased.now }
-    requires sizes { All (λ piece. IfSome piece (λ bytes. length bytes ≡ size)) pieces.now }
+    requires some { 1 ≤ width }
+    requires at_most { width ≤ 64 }
 {
-    let width = pieces.len() as u32;
-    if !is_erasure(width, 3, erased, erased) {
-        bail!("the first pieces are erased, at most three");
+    let alloc = rt.alloc();
+    let pieces = pieces_without(alloc, width, lost, size)?;
+    let erased = gaps_of(alloc, &pieces)?;
+    if !is_erasure(width, 3, &erased, &erased) {
+        bail!("at most three pieces are lost, and as many as there are parities");
     }
-    let Ok(plan) = plan(rt.alloc(), &POINTS, width, erased, erased) else {
+    let Ok(plan) = plan(alloc, &POINTS, width, &erased, &erased) else {
         bail!("there is no plan for the first chunks");
     };
-    let parities = chunks(rt.alloc(), erased.len() as u32, size)?;
+    let parities = chunks(alloc, erased.len() as u32, size)?;
     let mut least = u64::MAX;
     for _ in 0..turns.count {
         let start = Instant::now(rt)?;
         for _ in 0..turns.repeats {
-            apply(rt.alloc(), &plan, size, pieces, &parities)?;
+            apply(alloc, &plan, size, &pieces, &parities)?;
         }
         least = least.min(nanoseconds_since(rt, &start)?);
     }
     Ok(least)
+}
+
+// The pieces of a stripe, without the first ones.
+fn pieces_without(
+    alloc: Global,
+    width: u32,
+    lost: u32,
+    size: u32,
+) -> Result<Vec<Option<Chunk>>, Memory>
+    ensures count { IfOk result (λ pieces. length pieces.items ≡ width) }
+    ensures sizes { IfOk result (λ pieces. All (λ piece. IfSome piece
+        (λ bytes. length bytes ≡ size)) pieces.items) }
+{
+    let mut pieces = Vec::new(alloc);
+    for t in 0..width {
+        pieces.push(piece_behind(alloc, lost, t, size)?)?;
+    }
+    Ok(pieces)
+}
+
+// Piece t, where it isn't one of the first ones.
+fn piece_behind(alloc: Global, lost: u32, t: u32, size: u32) -> Result<Option<Chunk>, Memory>
+    ensures { IfOk result (λ o. IfSome o (λ bytes. length bytes ≡ size)) }
+{
+    if t < lost {
+        return Ok(None);
+    }
+    Ok(Some(chunk(alloc, t, size)?))
 }
 
 /// The nanoseconds since then.

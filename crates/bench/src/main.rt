@@ -4,8 +4,10 @@
 
 mod checking;
 mod codes;
+mod gathering;
 mod kernels;
 mod report;
+mod stripe;
 
 use anyhow::{Result, bail};
 use report::report;
@@ -31,6 +33,7 @@ fn explain(rt: &impl Print) -> Result<()> {
     println!(rt; "encode 6+3, 12+3: a stripe of 6 or of 12 chunks to 3 parities")?;
     println!(rt; "merge 2, merge 4: the parities of so many narrow stripes to a wide one")?;
     println!(rt; "decode E of K+3: K - E chunks and E parities to the E erased chunks")?;
+    println!(rt; "gather 6+3: the 6 chunks of a stripe of which nothing is lost")?;
     println!(rt;
         "check 33+4: four stages of 33 chunks and 4 parities, the worst known that is accepted"
     )?;

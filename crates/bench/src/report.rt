@@ -2,7 +2,8 @@
 ghost use Rattle.std.specs.Prelude.{◌≡◌, length};
 
 use crate::checking::least_check;
-use crate::codes::{Turns, chunk, least_decoding, least_encoding, least_merging};
+use crate::codes::{Turns, least_decoding, least_encoding, least_merging};
+use crate::gathering::least_gathering;
 use crate::kernels::{Kernel, least_kernel};
 use anyhow::Result;
 use std::rt::Clock;
@@ -19,8 +20,8 @@ pub fn report<R: Print + Clock + AllocGlobal>(rt: &R, turns: u32) -> Result<()> 
         println!(rt; "{kibibytes} KiB")?;
         let plain = report_kernels(rt, turns, size)?;
         report_codes(rt, turns, size, plain)?;
-        report_decoding_six(rt, turns, size, plain)?;
-        report_decoding_twelve(rt, turns, size, plain)?;
+        report_decodings(rt, turns, size, plain)?;
+        report_gathering(rt, turns, size, plain)?;
     }
     let least = least_check(
         rt,
@@ -80,138 +81,42 @@ fn report_codes<R: Print + Clock + AllocGlobal>(
     print_rate(rt, "merge 4", rate(turns, 4 * bytes, least), plain)
 }
 
-// Times the decodings of a stripe of 6 pieces.
-fn report_decoding_six<R: Print + Clock + AllocGlobal>(
+// Times the decodings of one to three erased pieces.
+fn report_decodings<R: Print + Clock + AllocGlobal>(
     rt: &R,
     turns: Turns,
     size: u32,
     plain: u64,
 ) -> Result<()> {
-    let bytes = 6 * u64::from(size);
-    let least = least_three_of_six(rt, turns, size)?;
-    print_rate(rt, "decode 3 of 6+3", rate(turns, bytes, least), plain)?;
-    let least = least_two_of_six(rt, turns, size)?;
-    print_rate(rt, "decode 2 of 6+3", rate(turns, bytes, least), plain)?;
-    let least = least_one_of_six(rt, turns, size)?;
-    print_rate(rt, "decode 1 of 6+3", rate(turns, bytes, least), plain)
+    for width in [6, 12] {
+        for erased in [3, 2, 1] {
+            let least = least_decoding(rt, turns, width, erased, size)?;
+            let rate = rate(turns, u64::from(width) * u64::from(size), least);
+            print_rate(
+                rt,
+                &format!(in rt.alloc(); "decode {erased} of {width}+3")?,
+                rate,
+                plain,
+            )?;
+        }
+    }
+    Ok(())
 }
 
-// The time of decoding three erased pieces of a stripe of 6.
-fn least_three_of_six<R: Clock + AllocGlobal>(rt: &R, turns: Turns, size: u32) -> Result<u64> {
-    let alloc = rt.alloc();
-    let pieces = [
-        None,
-        None,
-        None,
-        Some(chunk(alloc, 3, size)?),
-        Some(chunk(alloc, 4, size)?),
-        Some(chunk(alloc, 5, size)?),
-    ];
-    least_decoding(rt, turns, &[0, 1, 2], &pieces, size)
-}
-
-// The time of decoding two erased pieces of a stripe of 6.
-fn least_two_of_six<R: Clock + AllocGlobal>(rt: &R, turns: Turns, size: u32) -> Result<u64> {
-    let alloc = rt.alloc();
-    let pieces = [
-        None,
-        None,
-        Some(chunk(alloc, 2, size)?),
-        Some(chunk(alloc, 3, size)?),
-        Some(chunk(alloc, 4, size)?),
-        Some(chunk(alloc, 5, size)?),
-    ];
-    least_decoding(rt, turns, &[0, 1], &pieces, size)
-}
-
-// The time of decoding one erased pieces of a stripe of 6.
-fn least_one_of_six<R: Clock + AllocGlobal>(rt: &R, turns: Turns, size: u32) -> Result<u64> {
-    let alloc = rt.alloc();
-    let pieces = [
-        None,
-        Some(chunk(alloc, 1, size)?),
-        Some(chunk(alloc, 2, size)?),
-        Some(chunk(alloc, 3, size)?),
-        Some(chunk(alloc, 4, size)?),
-        Some(chunk(alloc, 5, size)?),
-    ];
-    least_decoding(rt, turns, &[0], &pieces, size)
-}
-
-// Times the decodings of a stripe of 12 pieces.
-fn report_decoding_twelve<R: Print + Clock + AllocGlobal>(
+// Times the gathering of a stripe of which nothing is lost.
+fn report_gathering<R: Print + Clock + AllocGlobal>(
     rt: &R,
     turns: Turns,
     size: u32,
     plain: u64,
 ) -> Result<()> {
-    let bytes = 12 * u64::from(size);
-    let least = least_three_of_twelve(rt, turns, size)?;
-    print_rate(rt, "decode 3 of 12+3", rate(turns, bytes, least), plain)?;
-    let least = least_two_of_twelve(rt, turns, size)?;
-    print_rate(rt, "decode 2 of 12+3", rate(turns, bytes, least), plain)?;
-    let least = least_one_of_twelve(rt, turns, size)?;
-    print_rate(rt, "decode 1 of 12+3", rate(turns, bytes, least), plain)
-}
-
-// The time of decoding three erased pieces of a stripe of 12.
-fn least_three_of_twelve<R: Clock + AllocGlobal>(rt: &R, turns: Turns, size: u32) -> Result<u64> {
-    let alloc = rt.alloc();
-    let pieces = [
-        None,
-        None,
-        None,
-        Some(chunk(alloc, 3, size)?),
-        Some(chunk(alloc, 4, size)?),
-        Some(chunk(alloc, 5, size)?),
-        Some(chunk(alloc, 6, size)?),
-        Some(chunk(alloc, 7, size)?),
-        Some(chunk(alloc, 8, size)?),
-        Some(chunk(alloc, 9, size)?),
-        Some(chunk(alloc, 10, size)?),
-        Some(chunk(alloc, 11, size)?),
-    ];
-    least_decoding(rt, turns, &[0, 1, 2], &pieces, size)
-}
-
-// The time of decoding two erased pieces of a stripe of 12.
-fn least_two_of_twelve<R: Clock + AllocGlobal>(rt: &R, turns: Turns, size: u32) -> Result<u64> {
-    let alloc = rt.alloc();
-    let pieces = [
-        None,
-        None,
-        Some(chunk(alloc, 2, size)?),
-        Some(chunk(alloc, 3, size)?),
-        Some(chunk(alloc, 4, size)?),
-        Some(chunk(alloc, 5, size)?),
-        Some(chunk(alloc, 6, size)?),
-        Some(chunk(alloc, 7, size)?),
-        Some(chunk(alloc, 8, size)?),
-        Some(chunk(alloc, 9, size)?),
-        Some(chunk(alloc, 10, size)?),
-        Some(chunk(alloc, 11, size)?),
-    ];
-    least_decoding(rt, turns, &[0, 1], &pieces, size)
-}
-
-// The time of decoding one erased pieces of a stripe of 12.
-fn least_one_of_twelve<R: Clock + AllocGlobal>(rt: &R, turns: Turns, size: u32) -> Result<u64> {
-    let alloc = rt.alloc();
-    let pieces = [
-        None,
-        Some(chunk(alloc, 1, size)?),
-        Some(chunk(alloc, 2, size)?),
-        Some(chunk(alloc, 3, size)?),
-        Some(chunk(alloc, 4, size)?),
-        Some(chunk(alloc, 5, size)?),
-        Some(chunk(alloc, 6, size)?),
-        Some(chunk(alloc, 7, size)?),
-        Some(chunk(alloc, 8, size)?),
-        Some(chunk(alloc, 9, size)?),
-        Some(chunk(alloc, 10, size)?),
-        Some(chunk(alloc, 11, size)?),
-    ];
-    least_decoding(rt, turns, &[0], &pieces, size)
+    let least = least_gathering(rt, turns, size)?;
+    print_rate(
+        rt,
+        "gather 6+3",
+        rate(turns, 6 * u64::from(size), least),
+        plain,
+    )
 }
 
 // The rate at which so many bytes are read in each repeat, in hundredths of GB/s.

@@ -1,8 +1,10 @@
+-- What the public calls promise.
 pub mod Stripes
 pub mod Answers
-pub mod Fronts
 pub mod Decoding
+pub mod Gathering
+-- Words of private functions.
+pub mod Fronts
 pub mod Plans
 pub mod Columns
-pub mod Gathering
 pub mod Letters

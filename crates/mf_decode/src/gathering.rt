@@ -87,8 +87,9 @@ fn try_gather<P: Pieces>(
     Ok(Some(restored(alloc, points, width, chunk, found, erased.as_slice(), &had)?))
 }
 
-// The places of the pieces that were not found.
-pub(crate) fn gaps_of(alloc: Global, found: &[Option<Chunk>]) -> Result<Vec<u32>, Memory>
+/// The places of the pieces that are missing, ascending: what `plan` and `apply` ask to be erased. The only error is
+/// want of memory.
+pub fn gaps_of(alloc: Global, found: &[Option<Chunk>]) -> Result<Vec<u32>, Memory>
     requires { length found.now < 2 ^ 32 }
     ensures { IfOk result (λ erased. erased.items ≡ gaps_from 0 found.now) }
 {

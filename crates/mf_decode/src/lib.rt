@@ -12,7 +12,7 @@ mod planning;
 mod tests;
 
 pub use applying::{apply, apply_block};
-pub use gathering::{Gathered, gather};
+pub use gathering::{Gathered, gaps_of, gather};
 pub use mf_kernel::{Chunk, Memory};
 pub use mf_matrix::KernelList;
 pub use pieces::{Asked, Pieces, Place};

@@ -1,5 +1,6 @@
 //! Trials across crates: what the calls of the codes answer, beside plain loops over carry-less
-//! products, and a file that its only actor creates, reads and converts. There are only tests.
+//! products, and a file that its only actor creates, reads, converts, repairs and reclaims. There
+//! are only tests.
 #![tactic(auto)]
 
 #[cfg(test)]
@@ -16,6 +17,8 @@ mod files;
 mod gatherings;
 #[cfg(test)]
 mod kernels;
+#[cfg(test)]
+mod mendings;
 #[cfg(test)]
 mod merges;
 #[cfg(test)]

@@ -2,3 +2,4 @@ mod Limits
 mod Running
 mod Ending
 mod Once
+mod Serving

@@ -1,16 +1,27 @@
 -- Laws of what the program answers, and of how a call ends.
-use Rattle.std.specs.Prelude.{◌≡◌, ◌≢◌, ℕ, ◌⊎◌, List, Some}
+use Rattle.std.specs.Prelude.{◌≡◌, ◌≢◌, ℕ, ◌<◌, ◌⊎◌, List, length, slice_get, Some}
 use Rattle.mf_io.specs.Faults.{HasRisen}
+use Rattle.mf_places.specs.Facts.{BookFacts}
+use Rattle.mf_places.specs.Servers.{no_servers}
+use Rattle.mf_lines.specs.declared.parts.Act.TheVariants as act
 use Rattle.mf_lines.specs.declared.parts.ScriptFault.{ScriptFault}
 use Rattle.mf_lines.specs.Meaning.{Script}
 use Rattle.mf_script.specs.Laws.{bare}
 use Rattle.mf_script.specs.Scripts.{IsScript}
+use Rattle.mf_vault.specs.Actor.{Actor}
+use Rattle.mf_read.specs.declared.outcome.ReadOutcome.TheVariants as read
+use Rattle.mf_read.specs.Reading.{bears}
+use Rattle.mf_client.specs.declared.done.Done.{Done}
+use Rattle.mf_client.specs.declared.done.Outcome.{Outcome}
+use Rattle.mf_client.specs.declared.done.Outcome.TheVariants as outcome
+use Rattle.mf_client.specs.declared.done.Place.{Place}
+use Rattle.mf_client.specs.Runs.{IsDone}
 use Rattle.mf_report.specs.Verdicts.{refused_text}
 use Rattle.mf_top.specs.Answers.{task_words, IsAnswer}
 use Rattle.mf_top.specs.Ends.{Call, Ends}
 use Rattle.mf_top.specs.declared.Task.TheVariants.{Run, Check}
 use Rattle.mf_top.specs.declared.Status.{Status}
-use Rattle.mf_top.specs.declared.Status.TheVariants.{Done, Refused, Memory}
+use Rattle.mf_top.specs.declared.Status.TheVariants as ended
 
 -- Both are the lines of one fault. Nothing is said of the kernel list of a set of places that isn't decodable.
 pub record RefusesAlike (x y : List ℕ) : Type 0 where
@@ -34,6 +45,22 @@ pub record NothingFailed (c : Call) : Type 0 where
 -- Where nothing failed, a call that runs a script ends with 0 or 5, and one that tries a family with 0, 1 or 5.
 pub record Completes : Type 0 where
   pub run : (c : Call) (status : Status) (text : List ℕ) (s : Script) → Ends c status → c.words ≡ task_words Run
-      → c.left ≡ Some text → IsScript text s → NothingFailed c → (status ≡ Done) ⊎ (status ≡ Memory)
+      → c.left ≡ Some text → IsScript text s → NothingFailed c → (status ≡ ended.Done) ⊎ (status ≡ ended.Memory)
   pub check : (c : Call) (status : Status) → Ends c status → c.words ≡ task_words Check → NothingFailed c
-      → (status ≡ Done) ⊎ ((status ≡ Refused) ⊎ (status ≡ Memory))
+      → (status ≡ ended.Done) ⊎ ((status ≡ ended.Refused) ⊎ (status ≡ ended.Memory))
+
+-- What a command that reads and names no server may answer: the bytes; that the file isn't there; want of memory; or
+-- more names of one stripe lost than the generation bears.
+abbrev pub IsServed : BookFacts → Outcome → Type 0
+IsServed b (outcome.Bytes g count from digest) = Unit {0}
+IsServed b (outcome.Refused read.Absent) = Unit {0}
+IsServed b (outcome.Refused read.Removed) = Unit {0}
+IsServed b (outcome.Refused read.Memory) = Unit {0}
+IsServed b (outcome.Refused (read.DataLost g stripe lost)) = bears b g < length lost
+IsServed b other = ⊥
+
+-- So does each read of a client that names no server.
+abbrev pub ReadsAreServed : Type 0
+ReadsAreServed = (s : Script) (at : Place) (line file : ℕ) (done : Done) (before after : List Actor)
+    → IsDone s at (record { line = line; act = act.Read file no_servers }) done before after
+    → (a : Actor) × (slice_get before file ≡ Some a) × IsServed a.facts.book done.outcome

@@ -1,6 +1,6 @@
 //! Laws of the top call.
 
-ghost use Rattle.mf_top.specs.Laws.{OneAnswer, Completes};
+ghost use Rattle.mf_top.specs.Laws.{OneAnswer, Completes, ReadsAreServed};
 
 /// Words and a text have one status and one answer, where no command lacks memory.
 pub fn one_answer()
@@ -11,4 +11,10 @@ pub fn one_answer()
 /// 5.
 pub fn ends_well()
     ensures { Completes }
+{}
+
+/// A command that reads and names no server answers the bytes, or that the file isn't there, or
+/// want of memory, or more names of one stripe lost than the generation bears.
+pub fn reads_are_served()
+    ensures { ReadsAreServed }
 {}

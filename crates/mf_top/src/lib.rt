@@ -12,7 +12,7 @@ mod phases;
 mod writing;
 
 use answers::answer;
-pub use laws::{ends_well, one_answer};
+pub use laws::{ends_well, one_answer, reads_are_served};
 use mf_client::{Free, Turnstile};
 use mf_io::{ReadAll, Sink, Source, read_all};
 use mf_report::{too_long_line, words_line};
@@ -88,8 +88,8 @@ pub fn morph<R, S: Source, K: Sink, T: Turnstile>(
 }
 
 /// Tries the family of the script that the source has left. It writes one line: `family ok stages
-/// Q tolerance T ..` with the tolerance of each stage, or `refused line L ` and what is wrong there.
-/// It answers the status of `morph` with the word `check`: 0, 1, 3, 4 or 5.
+/// Q tolerance T ..` with the tolerance of each stage, or `refused line L ` and what is wrong
+/// there. It answers the status of `morph` with the word `check`: 0, 1, 3, 4 or 5.
 pub fn morph_check<S: Source, K: Sink>(alloc: Global, source: &mut S, sink: &mut K) -> u8
     ensures { (status : Status) × (result ≡ number_of status) × Ends (record {
       words = task_words Task.Check;

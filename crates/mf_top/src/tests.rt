@@ -79,8 +79,8 @@ const CUT_BEFORE_THE_END: &str = "\
     morph 1\nservers 6\nchunk 1\npoints 1 2\nstage 2 2 1\nstage 4 2 0\nfile a text abcd\n\
     phase\nclient\ncreate a\n";
 
-/// Words with a space between each two, a text, the numbers of the read and the write that fail (0 for
-/// none), and what is wanted: the status, and the bytes that were written.
+/// Words with a space between each two, a text, the numbers of the read and the write that fail (0
+/// for none), and what is wanted: the status, and the bytes that were written.
 #[derive(Clone, Copy)]
 struct Case(&'static str, &'static str, u32, u32, u8, &'static str);
 
@@ -175,7 +175,8 @@ fn each_status_of_a_check_with_what_it_writes(rt: HostRuntime) -> Result<(), Fai
     Ok(())
 }
 
-/// The number of a line of the script of two stages, what stands in its place, end included, and what is written.
+/// The number of a line of the script of two stages, what stands in its place, end included, and
+/// what is written.
 static EDITS: [(u32, &str, &str); 18] = [
     (1, "morph 3\n", "refused line 1 header\n"),
     (2, "servers 06\n", "refused line 2 number\n"),

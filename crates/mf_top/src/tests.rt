@@ -1,3 +1,5 @@
+mod rows;
+
 use super::*;
 use mf_io::{MemorySink, MemorySource};
 use std::process::Abort;

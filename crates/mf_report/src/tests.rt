@@ -180,8 +180,14 @@ fn each_outcome_has_its_text(rt: HostRuntime) -> Result<(), Fail> {
             }),
             "unreachable gen 0 stripe 1 D2 server 2",
         ),
-        (reclaimed(alloc, 0)?, "reclaimed closed 1 dropped 4 pinned -"),
-        (reclaimed(alloc, 1)?, "reclaimed closed 1 dropped 4 pinned 0:1"),
+        (
+            reclaimed(alloc, 0)?,
+            "reclaimed closed 1 dropped 4 pinned -"
+        ),
+        (
+            reclaimed(alloc, 1)?,
+            "reclaimed closed 1 dropped 4 pinned 0:1"
+        ),
         (
             reclaimed(alloc, 2)?,
             "reclaimed closed 1 dropped 4 pinned 0:1,1:3"

@@ -1,27 +1,22 @@
 ghost use Rattle.std.specs.Prelude.{◌≡◌, IfOk};
 
 use super::*;
-use crate::dumps::{push_dumps, push_published, push_rest};
+use crate::dumps::{push_published, push_rest};
 use crate::outcomes::push_outcome;
 use mf_client::{Done, Outcome, Part, Parts, Place};
-use mf_convert::{Change, create};
+use mf_convert::Change;
 use mf_io::MemorySink;
-use mf_places::{Losses, Servers};
-use mf_plain::{Plain, PlainAccess};
+use mf_places::Servers;
 use mf_read::{LostNames, ReadOutcome};
 use mf_reclaim::{PinCounts, ReclaimOutcome};
 use mf_repair::RepairOutcome;
 use mf_script::{Act, Script, read_script};
-use mf_vault::{Book, Io, Name, Rest};
+use mf_vault::{Io, Name, Rest};
 use std::alloc::Global;
 use std::test::Fail;
 
 const TEXT: &[u8] =
     b"morph 1\nservers 6\nchunk 1\npoints 1 2\nstage 2 2 1\nstage 4 2 0\nfile a text abcd\nphase\nclient\ncreate a\nread a\nend\n";
-
-// The same with a second file, and a dump of each.
-const DUMP_TEXT: &[u8] =
-    b"morph 1\nservers 6\nchunk 1\npoints 1 2\nstage 2 2 1\nstage 4 2 0\nfile a text abcd\nfile b text x\nphase\nclient\ncreate a\ndump a\ndump b\nend\n";
 
 /// The SHA-256 of `abcd`.
 const DIGEST: [u8; 32] = [
@@ -34,9 +29,6 @@ const READ: &str =
 
 const REPORT: &str =
     "report 1\n1.1.1 create a: created io 0 0 0 0 12 12 0\n1.1.2 read a: bytes 4 gen 0 from 4 sha256 88d4266fd4e6338d13b845fcf289579d209c897823b9217da3e161936f031589 io 4 0 0 0 0 0 0\n1.1.2 a converted 0 to 1 made 9\n1.1.2 a last 1\ntotal io 4 0 0 0 12 12 0\nconverts io 0 0 0 0 0 0 0\nend\n";
-
-const DUMPS: &str =
-    "dump a published 0 length 4\ngen 0 kept\ngen 1 kept\nchunk D0 server 0 here ca978112ca1bbdcafac231b39a23dc4da786eff8147c4e72b9807785afee48bb\nchunk D1 server 1 here 3e23e8160039594a33894f6564e1b1348bbd7a0088d42c4acb73eeaed59c009d\nchunk D2 server 2 here 2e7d2c03a9507ae265ecf5b5356885a53393a2029d241394997265a1a25aefc6\nchunk D3 server 3 here 18ac3e7343f016890c510e93f935261169d9e3f565436429830faf0934f4f8e4\nchunk C0.0 server 2 here ca978112ca1bbdcafac231b39a23dc4da786eff8147c4e72b9807785afee48bb\nchunk C0.1 server 3 here 3e23e8160039594a33894f6564e1b1348bbd7a0088d42c4acb73eeaed59c009d\nchunk C0.2 server 0 here 2e7d2c03a9507ae265ecf5b5356885a53393a2029d241394997265a1a25aefc6\nchunk C0.3 server 1 here 18ac3e7343f016890c510e93f935261169d9e3f565436429830faf0934f4f8e4\nchunk P2.0.0 server 4 here 084fed08b978af4d7d196a7446a86b58009e636b611db16211b65a9aadff29c5\nchunk P2.0.1 server 5 here 6922e93e3827642ce4b883c756b31abf80036649d3614bf5fcb3adda43b8ea32\nchunk P2.1.0 server 4 here ca358758f6d27e6cf45272937977a748fd88391db679ceda7dc7bf1f005ee879\nchunk P2.1.1 server 5 here 087d80f7f182dd44f184aa86ca34488853ebcc04f0c60d5294919a466b463831\nchunk P4.0.0 server 4 unborn\nchunk P4.0.1 server 5 unborn\ndump b published none length 1\ngen 0 kept\ngen 1 kept\nchunk D0 server 1 unborn\nchunk C0.0 server 3 unborn\nchunk P2.0.0 server 5 unborn\nchunk P2.0.1 server 0 unborn\nchunk P4.0.0 server 5 unborn\nchunk P4.0.1 server 0 unborn\n";
 
 const CHANGES: [(Change, &str); 12] = [
     (Change::Created, "created"),
@@ -202,33 +194,6 @@ fn each_outcome_has_its_text(rt: HostRuntime) -> Result<(), Fail> {
     Ok(())
 }
 
-// A file of these bytes in chunks of one byte, of the script's family, not created.
-fn plain_of(alloc: Global, script: &Script, file: u32, bytes: &[u8]) -> Result<Plain, Memory> {
-    let family = script.family();
-    let length = bytes.len() as u32;
-    let book = Book::new(alloc, family.shape(), family.points(), 1, file, length)?;
-    Plain::new(alloc, book, bytes)
-}
-
-#[test]
-fn dumps_tell_each_generation_and_each_chunk(rt: HostRuntime) -> Result<(), Fail> {
-    let alloc = rt.alloc();
-    let script = match read_script(alloc, DUMP_TEXT) {
-        Ok(script) => script,
-        Err(_) => return Err("refused")?,
-    };
-    let first = plain_of(alloc, &script, 0, b"abcd")?;
-    let mut access = PlainAccess::new(alloc, first, 0, &Losses::new(alloc));
-    let created = create(alloc, &mut access, script.family(), b"abcd");
-    assert_eq!(rt; created, Change::Created);
-    let (first, _) = access.finish();
-    let files = vec![in alloc; first, plain_of(alloc, &script, 1, b"x")?]?;
-    let mut out = Vec::new(alloc);
-    push_dumps(&mut out, script.files(), &files, script.dumps())?;
-    assert_eq!(rt; out.as_slice(), DUMPS.as_bytes());
-    Ok(())
-}
-
 #[test]
 fn each_state_and_published_number_has_its_text(rt: HostRuntime) -> Result<(), Fail> {
     let alloc = rt.alloc();
@@ -318,7 +283,7 @@ fn read_done(alloc: Global) -> Result<Done, Memory>
 }
 
 #[test]
-fn a_report_has_its_lines_in_order_or_a_front_of_them(rt: HostRuntime) -> Result<(), Fail> {
+fn a_report_has_its_lines_in_order(rt: HostRuntime) -> Result<(), Fail> {
     let alloc = rt.alloc();
     let script = script_of(alloc)?;
     let made = Done {
@@ -337,15 +302,9 @@ fn a_report_has_its_lines_in_order_or_a_front_of_them(rt: HostRuntime) -> Result
         },
     };
     let done = vec![in alloc; made, read_done(alloc)?]?;
-    let files = vec![in alloc; plain_of(alloc, &script, 0, b"abcd")?]?;
+    let files = Vec::new(alloc);
     let mut whole = MemorySink::new(alloc, 4096, Vec::new(alloc));
     assert_eq!(rt; report(alloc, &mut whole, &script, &done, &files), Ok(()));
     assert_eq!(rt; whole.written(), REPORT.as_bytes());
-    let mut failing = MemorySink::new(alloc, 7, vec![in alloc; 2]?);
-    assert_eq!(rt;
-        report(alloc, &mut failing, &script, &done, &files),
-        Err(ReportFault::Sink)
-    );
-    assert_eq!(rt; failing.written(), b"report ".as_slice());
     Ok(())
 }

@@ -93,10 +93,9 @@ fn data_lost(alloc: Global) -> Result<Outcome, Fail> {
     }))
 }
 
-// A reclaim that met so many generations with pins.
-fn reclaimed(alloc: Global, many: usize) -> Result<Outcome, Fail> {
-    let all: [(u32, u32); 2] = [(0, 1), (1, 3)];
-    let pinned = Vec::from_slice(alloc, &all[..many])?;
+// A reclaim that met these generations with pins.
+fn reclaimed(alloc: Global, pins: &[(u32, u32)]) -> Result<Outcome, Fail> {
+    let pinned = Vec::from_slice(alloc, pins)?;
     Ok(Outcome::Reclaim(ReclaimOutcome::Reclaimed {
         closed: 1,
         dropped: 4,
@@ -173,15 +172,15 @@ fn each_outcome_has_its_text(rt: HostRuntime) -> Result<(), Fail> {
             "unreachable gen 0 stripe 1 D2 server 2",
         ),
         (
-            reclaimed(alloc, 0)?,
+            reclaimed(alloc, &[])?,
             "reclaimed closed 1 dropped 4 pinned -"
         ),
         (
-            reclaimed(alloc, 1)?,
+            reclaimed(alloc, &[(0, 1)])?,
             "reclaimed closed 1 dropped 4 pinned 0:1"
         ),
         (
-            reclaimed(alloc, 2)?,
+            reclaimed(alloc, &[(0, 1), (1, 3)])?,
             "reclaimed closed 1 dropped 4 pinned 0:1,1:3"
         ),
         (Outcome::Reclaim(ReclaimOutcome::Absent), "absent"),

@@ -19,7 +19,7 @@ use Rattle.mf_vault.specs.Resting.{opening_of}
 use Rattle.mf_gate.specs.declared.known.About.{About}
 use Rattle.mf_gate.specs.declared.known.Known.{Known}
 
--- the facts of the file. Ticks are nothing to a gate
+-- the facts of the file. Ticks, and which table it is, are nothing to a gate
 abbrev pub facts_of : About → Facts
 facts_of k = record {
   book = k.book;
@@ -28,6 +28,7 @@ facts_of k = record {
   opening = opening_of k.number k.closed k.names;
   born = 0;
   now = 0;
+  table = [];
 }
 
 -- the same in the words of the file machine

@@ -32,6 +32,7 @@ facts_of r now losses = record {
   opening = opening_of r.number r.closed r.names;
   born = (if r.number == absent then now else r.born);
   now = now;
+  table = [];
 }
 
 -- it keeps the rules with no actor, and there is a state of each generation and name

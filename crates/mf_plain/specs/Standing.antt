@@ -26,6 +26,7 @@ facts_at book born now k = record {
   opening = opening_of k.opened.number k.opened.closed k.opened.names;
   born = born;
   now = now;
+  table = [];
 }
 
 -- what was stored as the phase began

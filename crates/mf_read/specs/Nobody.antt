@@ -14,6 +14,7 @@ no_facts = record {
   opening = record { number = 0; closed = λ g. false; name = λ n. 0; home = λ n. empty };
   born = 0;
   now = 0;
+  table = [];
 }
 
 abbrev pub nobody : Actor

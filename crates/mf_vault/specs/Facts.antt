@@ -21,7 +21,8 @@ cell l bytes (name.Parity width j p) = parity l.chunk bytes (slice_index l.point
 
 -- what no call of an access changes: what the book lays out, the file's bytes, the lose lines up to the end of the
 -- phase, the file at rest from which the phase began, the ticks at the file's creation (or, where it rested uncreated,
--- of this phase), and the ticks of this phase
+-- of this phase), the ticks of this phase, and the numbers that tell the table in which several actors find the file
+-- from every other table (none where one actor has the file alone)
 pub record Facts : Type 0 where
   pub book : BookFacts
   pub bytes : List ℕ
@@ -29,6 +30,7 @@ pub record Facts : Type 0 where
   pub opening : Opening
   pub born : ℕ
   pub now : ℕ
+  pub table : List ℕ
 
 -- the file's age in this phase: 0 where it rested uncreated
 abbrev pub age : Facts → ℕ

@@ -44,7 +44,7 @@ module _ (r : Resting) (now born : ℕ) (losses : List LoseLine) (more : List Lo
   abbrev w : World
   w = world (first_stored r) k.view
 
-  rests_on : machine.Rest (file f) f.opening
+  pub rests_on : machine.Rest (file f) f.opening
   rests_on =
       subst (λ ls. machine.Rest (record (file (facts_of r r.born r.losses)) {
         losses =

@@ -143,7 +143,7 @@ all_closed_back : (c : ℕ → ℕ) (g : ℕ) (bs : List Bool) → ((j : ℕ) �
 all_closed_back c g [] low = refl
 all_closed_back c g (b ∷ bs) low = λ i. closed_back b (c g) (low g) i ∷ all_closed_back c (g + 1) bs low i
 
-rest_back : (r : Rest) → rest_from (resting.word_of r) (resting.home_of r) ≡ r
+pub rest_back : (r : Rest) → rest_from (resting.word_of r) (resting.home_of r) ≡ r
 rest_back rest.Unborn = refl
 rest_back (rest.Here c) = refl
 rest_back rest.Dropped = refl

@@ -6,9 +6,12 @@ mod answering;
 mod calls;
 mod fetch;
 mod known;
+mod parts;
 mod plain;
 #[cfg(test)]
 mod tests;
 
 pub use access::PlainAccess;
+pub use known::Told;
+pub use parts::Parts;
 pub use plain::Plain;

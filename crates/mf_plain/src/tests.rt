@@ -27,7 +27,7 @@ fn a_file_that_is_not_created_rests(rt: HostRuntime) -> Result<(), Fail> {
     let alloc = rt.alloc();
     let shape = Shape::new(alloc, &STAGES, 6)?;
     let book = Book::new(alloc, &shape, &[1, 2], 1, 0, 4)?;
-    let plain = Plain::new(alloc, book, b"abcd")?;
+    let plain = Plain::together(Plain::new(alloc, book, b"abcd")?.apart());
     assert_eq!(rt;
         (plain.published(), plain.born(), plain.book().count()),
         (0, 0, 14)

@@ -1,6 +1,8 @@
--- For the tests: a created file of one byte.
-use Rattle.std.proofs.Common.{◌≡◌, ℕ, zero, suc, ◌+◌, ◌<◌, Bool, true, false, [], ◌∷◌, get_or, sym, refl, ap, ◌∙◌}
-use Rattle.std.proofs.Common.{⊎_elim, inl, subst, arith, ◌⊎◌}
+-- For the tests: a created file of one byte, whole or with its data lost.
+use Rattle.std.proofs.Common.{◌≡◌, ℕ, zero, suc, ◌+◌, ◌<◌, ◌≤◌, Bool, true, false, List, [], ◌∷◌, get_or, sym, refl, ap}
+use Rattle.std.proofs.Common.{⊎_elim, inl, inr, subst, arith, ◌⊎◌, ◌∙◌}
+use Rattle.mf_machine.specs.declared.answer.Closed.{Closed}
+use Rattle.mf_machine.specs.declared.answer.Closed.TheVariants as closing
 use Rattle.mf_machine.specs.declared.answer.LoseStep.{LoseStep}
 use Rattle.mf_machine.specs.declared.answer.LoseStep.TheVariants as lose
 use Rattle.mf_machine.specs.declared.answer.Slot.{Slot}
@@ -9,11 +11,13 @@ use Rattle.mf_machine.specs.declared.answer.State.{State}
 use Rattle.mf_machine.specs.declared.answer.State.TheVariants as told
 use Rattle.mf_machine.specs.declared.view.Inside.{Inside}
 use Rattle.mf_machine.specs.declared.view.View.{View}
-use Rattle.mf_machine.specs.Actors.{Active, Free, Idle, PinHolds}
+use Rattle.mf_machine.specs.Actors.{Active, Free, Idle, PinHolds, WorkHolds, AllShown}
+use Rattle.mf_machine.specs.Counts.{times as often}
 use Rattle.mf_machine.specs.File.{File, IsLoseLine, HasCell}
 use Rattle.mf_machine.specs.Steps as row
+use Rattle.mf_machine.specs.Words as word
 use Rattle.mf_machine.specs.Worlds.{outside}
-use Rattle.mf_machine.specs.File.Home.{keeps}
+use Rattle.mf_machine.specs.File.Home.{empty, keeps}
 use Rattle.mf_machine.proofs.Lists.{bit_is}
 use Rattle.mf_machine.proofs.Words.{cell_here}
 use Rattle.mf_places.specs.Names.{count_of, name_at, all_names, data_names, copies_named, copy_names, stripe_parities}
@@ -185,3 +189,92 @@ takes_first p e active i pinned = (
   subst (λ (k : About). PinHolds (file_of k) (view p).hold (view p).work 0) (sym e)
       (holds_first (view p).hold (view p).work pinned),
 )
+
+-- the same file with this published number, whose data is lost
+abbrev pub lost_byte : ℕ → About
+lost_byte number = record one_byte { number = number; names = rest.Lost 7 ∷ rest.Here (97 ∷ []) ∷ [] }
+
+lost_words : (number n : ℕ) → n < (file_of one_byte).names → ((facts_of (lost_byte number)).opening.name n ≡ 11)
+    ⊎ ((n ≡ 1) × ((facts_of (lost_byte number)).opening.name n ≡ 1))
+lost_words number zero low = inl refl
+lost_words number (suc zero) low = inr (refl, refl)
+lost_words number (suc (suc n)) low = let t = two_names in absurd (omega arith)
+
+pub lost_rests : (number : ℕ) → 1 ≤ number → number ≤ 2 → AtRest (lost_byte number)
+lost_rests number some most = record {
+  closed = refl;
+  names = sym two_names;
+  rest = record {
+    number = omega arith;
+    closed = λ g l e. absurd (none_closed g e);
+    born = λ g l e n i h z. ⊎_elim (λ o. omega arith) (λ o. let w = o.1 in omega arith) (lost_words number n i);
+    settled = λ n i z. ⊎_elim (λ o. omega arith) (λ o. let w = o.1 in omega arith) (lost_words number n i);
+    dropped = λ n i z. absurd (⊎_elim {C = ⊥} (λ o. omega arith) (λ o. let w = o.1 in omega arith)
+        (lost_words number n i));
+    lost = λ n l i. each_name (λ m. (facts_of (lost_byte number)).opening.name m ≡ word.lost l
+        → IsLoseLine (file_of one_byte) m l)
+        (λ e. let is : 7 ≡ l = omega arith in subst (IsLoseLine (file_of one_byte) 0) is line)
+        (λ e. absurd (omega arith)) n i;
+    here = each_name (λ n. (facts_of (lost_byte number)).opening.name n ≡ 1
+        → HasCell (file_of one_byte) n ((facts_of (lost_byte number)).opening.home n))
+        (λ e. absurd (omega arith))
+        (λ e. cell_here (file_of one_byte) 1 (keeps (97 ∷ [])) (ap keeps (sym second_cell)));
+    bare = each_name (λ n. ((facts_of (lost_byte number)).opening.name n ≡ 1 → ⊥)
+        → (facts_of (lost_byte number)).opening.home n ≡ empty)
+        (λ ne. refl) (λ ne. absurd (ne refl));
+  };
+}
+
+-- a pass that has pinned the only generation may take the first name
+pub takes_lost : (p : Pass) (number : ℕ) → passes.told p ≡ lost_byte number → Active (view p)
+    → (view p).inside ≡ outside → (view p).work ≡ 1 → row.MayTake (file p) 0 (view p)
+takes_lost p number e active i pinned = (
+  active,
+  free_by (view p) i,
+  subst (λ (k : About). 0 < (file_of k).names) (sym e) some_names,
+  subst (λ (k : About). PinHolds (file_of k) (view p).hold (view p).work 0) (sym e)
+      (holds_first (view p).hold (view p).work (inr pinned)),
+)
+
+-- and may bring it again, where it has the right
+pub brings_first : (p : Pass) (number : ℕ) → passes.told p ≡ lost_byte number → (view p).build.right ≡ 1
+    → (view p).work ≡ 1 → WorkHolds (file p) (view p).build (view p).last (view p).work 0
+brings_first p number e right pinned =
+    subst (λ (k : About). WorkHolds (file_of k) (view p).build (view p).last (view p).work 0) (sym e)
+    (right, inl (0, omega arith, pinned, held))
+
+pub begun_right : (b : Bool) (v : View) → b ≡ true → (row.begin_view b v).build.right ≡ 1
+begun_right true v e = refl
+begun_right false v e = absurd (let z : false ≡ true = e in cc)
+
+pub begin_inside : (b : Bool) (v : View) → (row.begin_view b v).inside ≡ v.inside
+begin_inside true v = refl
+begin_inside false v = refl
+
+pub pin_right : (b : Bool) (v : View) → (row.pin_view b Work 0 v).build.right ≡ v.build.right
+pin_right true v = refl
+pin_right false v = refl
+
+-- a pass to which the only generation was answered closed may drop each name
+pub drops_each : (p : Pass) (number n : ℕ) (xs : List ℕ) → passes.told p ≡ lost_byte number → n < 2 → Active (view p)
+    → (view p).inside ≡ outside → (view p).own.closed ≡ 0 ∷ xs → row.MayDrop (file p) n (view p)
+drops_each p number n xs e low active i closed = (
+  active,
+  free_by (view p) i,
+  subst (λ (k : About). n < (file_of k).names) (sym e) (let t = two_names in omega arith),
+  subst (λ (k : About). AllShown (file_of k) (view p).own n) (sym e) (λ g l h.
+      subst (λ (cs : List ℕ). 0 < often g cs + often g (view p).own.already) (sym closed)
+      (let first : 0 ≡ g = omega arith in
+      subst (λ m. 0 < often m (0 ∷ xs) + often m (view p).own.already) first
+      (let b = bit_is 0 0 refl in omega arith))),
+)
+
+pub closed_first : (a : Closed) (v : View) → a ≡ closing.Done → (row.close_view a 0 v).own.closed ≡ 0 ∷ v.own.closed
+closed_first closing.Done v e = refl
+closed_first (closing.Pins n) v e = absurd (let z : closing.Pins n ≡ closing.Done = e in cc)
+closed_first closing.Already v e = absurd (let z : closing.Already ≡ closing.Done = e in cc)
+
+pub close_inside : (a : Closed) (v : View) → (row.close_view a 0 v).inside ≡ v.inside
+close_inside closing.Done v = refl
+close_inside (closing.Pins n) v = refl
+close_inside closing.Already v = refl

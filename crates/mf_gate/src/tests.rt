@@ -1,7 +1,7 @@
 ghost use Rattle.std.specs.Prelude.{◌≡◌, ◌≤◌};
-ghost use Rattle.mf_machine.specs.Actors.{Free, IsFreeSlot, LacksRight};
+ghost use Rattle.mf_machine.specs.Actors.{Free, IsFreeSlot, LacksRight, WorkHolds};
 ghost use Rattle.mf_machine.specs.File.{IsLoseLine};
-ghost use Rattle.mf_machine.specs.Steps.{MayTake};
+ghost use Rattle.mf_machine.specs.Steps.{MayDrop, MayTake};
 ghost use Rattle.mf_machine.specs.declared.answer.Slot.TheVariants.{Hold, Work};
 ghost use Rattle.mf_gate.specs.Passes.{IsAt, file, view};
 
@@ -132,5 +132,78 @@ fn a_taken_name_is_met_again(rt: HostRuntime) -> Result<(), Fail> {
     assert_eq!(rt; gate.look(&mut second), 1);
     assert!(rt; gate.pin(&mut second, Slot::Work, 0));
     assert_met_again(&rt, &gate, &mut first, &mut second);
+    Ok(())
+}
+
+// An actor with the right, whose Work pin holds name 0, finds it lost, and brings it again.
+fn assert_brought_again(rt: &impl Abort, gate: &Gate, pass: &mut Pass, bytes: Chunk)
+    requires at { IsAt pass.old gate.now }
+    requires take { MayTake (file pass.old) 0 (view pass.old) }
+    requires work { WorkHolds (file pass.old) (view pass.old).build (view pass.old).last
+        (view pass.old).work 0 }
+    requires cell { bytes ≡ (file pass.old).cell 0 }
+{
+    assert_eq!(rt; gate.see(pass, 0), State::Lost(7));
+    gate.retake(pass, 0, bytes);
+    assert_eq!(rt; gate.see(pass, 0), State::Here);
+    assert!(rt; matches!(gate.take(pass, 0), Taken::Here(_)));
+}
+
+#[test]
+fn a_lost_name_is_brought_again(rt: HostRuntime) -> Result<(), Fail> {
+    let alloc = rt.alloc();
+    let shape = Shape::new(alloc, &STAGES, 2)?;
+    let book = Book::new(alloc, &shape, &[1], 1, 0, 1)?;
+    let mut losses = Losses::new(alloc);
+    losses.push(7, 0)?;
+    let bytes: Note<[u8; 0]> = Note::pick(&());
+    let parity = Chunk::new(alloc, vec![in alloc; 97; 1]?)?;
+    let data = parity.share()?;
+    let mut names = Vec::new(alloc);
+    names.push(Rest::Lost(7))?;
+    names.push(Rest::Here(parity))?;
+    let made = Gate::new(alloc, &book, &bytes, &losses, 1, &[false], names);
+    let Ok((gate, mut pass)) = made else {
+        panic!(rt; "no memory")
+    };
+    assert!(rt; gate.begin(&mut pass));
+    assert_eq!(rt; gate.look(&mut pass), 1);
+    assert!(rt; gate.pin(&mut pass, Slot::Work, 0));
+    assert_brought_again(&rt, &gate, &mut pass, data);
+    Ok(())
+}
+
+// An actor to which each generation was answered closed drops name 0, which is lost, and name 1,
+// which is here. A second drop of each finds nothing to drop.
+fn assert_dropped_once(rt: &impl Abort, gate: &Gate, pass: &mut Pass)
+    requires at { IsAt pass.old gate.now }
+    requires lost { MayDrop (file pass.old) 0 (view pass.old) }
+    requires here { MayDrop (file pass.old) 1 (view pass.old) }
+{
+    assert!(rt; gate.drop_name(pass, 0));
+    assert!(rt; !gate.drop_name(pass, 0));
+    assert!(rt; gate.drop_name(pass, 1));
+    assert!(rt; !gate.drop_name(pass, 1));
+}
+
+#[test]
+fn a_lost_name_and_one_that_is_here_are_dropped_once(rt: HostRuntime) -> Result<(), Fail> {
+    let alloc = rt.alloc();
+    let shape = Shape::new(alloc, &STAGES, 2)?;
+    let book = Book::new(alloc, &shape, &[1], 1, 0, 1)?;
+    let mut losses = Losses::new(alloc);
+    losses.push(7, 0)?;
+    let bytes: Note<[u8; 0]> = Note::pick(&());
+    let parity = Chunk::new(alloc, vec![in alloc; 97; 1]?)?;
+    let mut names = Vec::new(alloc);
+    names.push(Rest::Lost(7))?;
+    names.push(Rest::Here(parity))?;
+    let made = Gate::new(alloc, &book, &bytes, &losses, 2, &[false], names);
+    let Ok((gate, mut pass)) = made else {
+        panic!(rt; "no memory")
+    };
+    assert_eq!(rt; gate.look(&mut pass), 2);
+    assert_eq!(rt; gate.close(&mut pass, 0), Closed::Done);
+    assert_dropped_once(&rt, &gate, &mut pass);
     Ok(())
 }

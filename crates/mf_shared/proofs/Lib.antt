@@ -1,0 +1,10 @@
+pub mod Fair
+pub mod Told
+pub mod Seen
+pub mod Tries
+pub mod Erased
+pub mod Leaving
+pub mod Beginning
+pub mod Files
+pub mod Going
+pub mod Shares

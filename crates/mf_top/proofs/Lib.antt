@@ -3,3 +3,4 @@ mod Running
 mod Ending
 mod Once
 mod Serving
+mod Reporting

@@ -7,7 +7,7 @@ use Rattle.std.specs.Option.{option_map}
 use Rattle.std.proofs.lemmas.Grind.{flat_map-append}
 use Rattle.std.proofs.lemmas.List.{length-map, length-take, take_all}
 use Rattle.std.proofs.lemmas.List.Elements.{All-append, All-from_get_or, All-map}
-use Rattle.std.proofs.lemmas.Option.{slice_get-map, slice_get-get_or, slice_get_within}
+use Rattle.std.proofs.lemmas.Option.{slice_get-map, slice_get-get_or, slice_get_within, get_or_from_slice_get}
 use Rattle.std.proofs.Math.Seq.{take-suc, take-append_seam}
 use Rattle.mf_machine.specs.Worlds.{World}
 use Rattle.mf_places.specs.declared.losses.LoseLine.{LoseLine}
@@ -23,7 +23,7 @@ use Rattle.mf_script.specs.Losses.{losses_of, item_losses}
 use Rattle.mf_vault.specs.Facts.{Facts}
 use Rattle.mf_vault.specs.Actor.{Actor}
 use Rattle.mf_vault.specs.Conditions.{IsIdle}
-use Rattle.mf_plain.specs.Resting.{Resting, facts_of}
+use Rattle.mf_plain.specs.Resting.{Resting, AtRest, facts_of}
 use Rattle.mf_plain.specs.declared.access.PlainAccess.{PlainAccess}
 use Rattle.mf_plain.specs.Alone.{first_actor, rested}
 use Rattle.mf_plain.specs.Whole.{actor_of}
@@ -31,7 +31,7 @@ use Rattle.mf_client.specs.declared.done.Done.{Done}
 use Rattle.mf_client.specs.Clients.{HasClient, phases_in, clients_of, commands_of, IsFileOf, AreFiles, facts_in}
 use Rattle.mf_client.specs.Runs.{Runs, RunsFrom}
 use Rattle.mf_top.specs.PlainRun.{new_file, new_from, new_files, first_actors, left_by, RunsPhase, RunsTo}
-use Rattle.mf_top.specs.PlainRun.{IsPlainRun}
+use Rattle.mf_top.specs.PlainRun.{AreOfLines, IsPlainRun}
 use Rattle.mf_top.specs.Between.{IsBehind, AreBehind}
 use Rattle.mf_top.proofs.Limits.{IsSingle, Singles, in_clients, in_item, in_items}
 
@@ -252,6 +252,22 @@ leaves s k files new actors are facts rest = record {
       behind_one s k n line first.before of.before.facts has.world r (are.each n line first.before at first.at) first.is
       has.is;
 }
+
+-- the files that are left are the script's, at rest
+pub of_lines : (s : Script) (phases : ℕ) (files all : List Resting) → AreBehind s phases files → files ≡ all
+    → All AtRest all → AreOfLines s files
+of_lines s phases files all are same rest =
+    let at_rest : All AtRest files = subst (All AtRest) (sym same) rest in
+    record {
+      count = are.count;
+      each = λ n line r at is.
+          let behind = are.each n line r at is in
+          record {
+            rest = subst AtRest (get_or_from_slice_get files n r r is) (at_rest n r (slice_get_within files n r is));
+            book = behind.book;
+            bytes = behind.bytes;
+          };
+    }
 
 -- ---- phases and their clients
 

@@ -11,7 +11,7 @@ use Rattle.mf_client.specs.declared.done.Done.{Done}
 use Rattle.mf_client.specs.Lacks.{lacks_memory}
 use Rattle.mf_report.specs.Report.{report_text}
 use Rattle.mf_report.specs.Verdicts.{accepted_text, refused_text, words_refusal}
-use Rattle.mf_top.specs.PlainRun.{IsPlainRun}
+use Rattle.mf_top.specs.PlainRun.{AreOfLines, IsPlainRun}
 use Rattle.mf_top.specs.declared.Task.{Task}
 use Rattle.mf_top.specs.declared.Task.TheVariants.{Run, Check}
 
@@ -33,10 +33,11 @@ pub record IsRefused (text : List ℕ) (fault : ScriptFault) : Type 0 where
   pub fault_of_text : IsScriptFault text fault
   pub not_memory : fault.kind ≢ kind.Memory
 
--- The text is this script, its phases did these commands, and these files are left.
+-- The text is this script, its phases did these commands, and these files are left, which are the script's, at rest.
 pub record IsRun (text : List ℕ) (s : Script) (done : List Done) (files : List Resting) : Type 0 where
   pub script : IsScript text s
   pub run : IsPlainRun s done files
+  pub left : AreOfLines s files
 
 -- The status of an answer, and its bytes. With `run` a script has the report of its run: with status 0 where no command
 -- lacked memory, and with 5 where one did. With `check` it has the line of its family. Any other text has the line of

@@ -1,14 +1,24 @@
 -- Laws of what the program answers, and of how a call ends.
-use Rattle.std.specs.Prelude.{◌≡◌, ◌≢◌, ℕ, ◌<◌, ◌⊎◌, List, length, slice_get, Some}
+use Rattle.std.specs.Prelude.{◌≡◌, ◌≢◌, ℕ, ◌<◌, ◌⊎◌, List, ◌++◌, codes, length, slice_get, slice_index_or, Some}
+use Rattle.sha2.specs.Sha256.{sha256}
+use Rattle.mf_text.specs.Hex.{hex_text}
 use Rattle.mf_io.specs.Faults.{HasRisen}
 use Rattle.mf_places.specs.Facts.{BookFacts}
+use Rattle.mf_places.specs.Names.{count_of, name_at}
+use Rattle.mf_places.specs.Placement.{server_of}
 use Rattle.mf_places.specs.Servers.{no_servers}
 use Rattle.mf_lines.specs.declared.parts.Act.TheVariants as act
+use Rattle.mf_lines.specs.declared.parts.FileLine.{FileLine}
 use Rattle.mf_lines.specs.declared.parts.ScriptFault.{ScriptFault}
 use Rattle.mf_lines.specs.Meaning.{Script}
+use Rattle.mf_script.specs.Contents.{bytes_in}
 use Rattle.mf_script.specs.Laws.{bare}
 use Rattle.mf_script.specs.Scripts.{IsScript}
+use Rattle.mf_vault.specs.declared.answers.Rest.TheVariants as rest
+use Rattle.mf_vault.specs.declared.io.Io.{Io}
+use Rattle.mf_vault.specs.Facts.{cell}
 use Rattle.mf_vault.specs.Actor.{Actor}
+use Rattle.mf_plain.specs.Resting.{Resting}
 use Rattle.mf_read.specs.declared.outcome.ReadOutcome.TheVariants as read
 use Rattle.mf_read.specs.Reading.{bears}
 use Rattle.mf_client.specs.declared.done.Done.{Done}
@@ -16,8 +26,14 @@ use Rattle.mf_client.specs.declared.done.Outcome.{Outcome}
 use Rattle.mf_client.specs.declared.done.Outcome.TheVariants as outcome
 use Rattle.mf_client.specs.declared.done.Place.{Place}
 use Rattle.mf_client.specs.Runs.{IsDone}
+use Rattle.mf_report.specs.Lines.{spaced}
+use Rattle.mf_report.specs.Names.{name_text}
+use Rattle.mf_report.specs.Counts.{io_text}
+use Rattle.mf_report.specs.Dumps.{chunk_text}
+use Rattle.mf_report.specs.Report.{took, conversions}
 use Rattle.mf_report.specs.Verdicts.{refused_text}
-use Rattle.mf_top.specs.Answers.{task_words, IsAnswer}
+use Rattle.mf_top.specs.PlainRun.{book_of}
+use Rattle.mf_top.specs.Answers.{task_words, IsRun, IsAnswer}
 use Rattle.mf_top.specs.Ends.{Call, Ends}
 use Rattle.mf_top.specs.declared.Task.TheVariants.{Run, Check}
 use Rattle.mf_top.specs.declared.Status.{Status}
@@ -64,3 +80,30 @@ abbrev pub ReadsAreServed : Type 0
 ReadsAreServed = (s : Script) (at : Place) (line file : ℕ) (done : Done) (before after : List Actor)
     → IsDone s at (record { line = line; act = act.Read file no_servers }) done before after
     → (a : Actor) × (slice_get before file ≡ Some a) × IsServed a.facts.book done.outcome
+
+-- The line of name number n of a file with this book and these bytes, where it has the digest of the name's cell: of the
+-- chunk that the plain encoding of the bytes gives it.
+abbrev pub cell_text : BookFacts → List ℕ → ℕ → List ℕ
+cell_text b bytes n =
+    codes "chunk " ++ name_text (name_at b n) ++ codes " server" ++ spaced (server_of b (name_at b n)) ++ codes " "
+    ++ (codes "here " ++ hex_text (sha256 (cell b bytes (name_at b n))))
+
+-- In each report of a run: of the script's file of any line, a dump's line of a name whose chunk is here has the digest
+-- of the name's cell.
+abbrev pub DigestsAreOfCells : Type 0
+DigestsAreOfCells = (text : List ℕ) (s : Script) (done : List Done) (files : List Resting) → IsRun text s done files
+    → (number : ℕ) (line : FileLine) (r : Resting) → slice_get s.files number ≡ Some line
+    → slice_get files number ≡ Some r → (n : ℕ) → n < count_of (book_of s number line) → (bytes : List ℕ)
+    → slice_index_or r.names n rest.Unborn ≡ rest.Here bytes
+    → chunk_text r n ≡ cell_text (book_of s number line) (bytes_in line.content) n
+
+-- no data and no copy was read, and so the text of the operations begins with two zeros
+pub record ReadsNoData (io : Io) : Type 0 where
+  pub pieces : io.pieces ≡ 0
+  pub copies : io.copies ≡ 0
+  pub text : (others : List ℕ) × (io_text io ≡ codes "io 0 0" ++ others)
+
+-- In each report of a run the conversions, taken together, read no data and no copy.
+abbrev pub ConversionsReadNoData : Type 0
+ConversionsReadNoData = (text : List ℕ) (s : Script) (done : List Done) (files : List Resting)
+    → IsRun text s done files → ReadsNoData (took (conversions done))

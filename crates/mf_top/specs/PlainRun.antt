@@ -1,5 +1,5 @@
 -- *Plain run*: what the phases of a script do, one after the other, where each has one client.
-use Rattle.std.specs.Prelude.{◌≡◌, ℕ, zero, suc, ◌+◌, List, [], ◌∷◌, ◌++◌, length, map, Option, Some}
+use Rattle.std.specs.Prelude.{◌≡◌, ℕ, zero, suc, ◌+◌, List, [], ◌∷◌, ◌++◌, length, map, slice_get, Option, Some}
 use Rattle.std.specs.Option.{option_map}
 use Rattle.mf_places.specs.Facts.{BookFacts}
 use Rattle.mf_lines.specs.declared.parts.FileLine.{FileLine}
@@ -7,7 +7,7 @@ use Rattle.mf_lines.specs.Meaning.{Script}
 use Rattle.mf_script.specs.Contents.{bytes_in}
 use Rattle.mf_script.specs.Losses.{losses_of}
 use Rattle.mf_vault.specs.Actor.{Actor}
-use Rattle.mf_plain.specs.Resting.{Resting, unborn}
+use Rattle.mf_plain.specs.Resting.{Resting, AtRest, unborn}
 use Rattle.mf_plain.specs.Alone.{first_actor, rested}
 use Rattle.mf_client.specs.declared.done.Done.{Done}
 use Rattle.mf_client.specs.Clients.{family_of, clients_of, phases_in}
@@ -37,6 +37,20 @@ new_from s n (line ∷ lines) = new_file s n line ∷ new_from s (n + 1) lines
 -- all files of the script
 abbrev pub new_files : Script → List Resting
 new_files s = new_from s 0 s.files
+
+-- ---- the script's files at rest, whatever became of them
+
+-- the script's file of this number and this line, at rest: with what its book lays out, and the bytes of its line
+pub record IsOfLine (s : Script) (n : ℕ) (line : FileLine) (r : Resting) : Type 0 where
+  pub rest : AtRest r
+  pub book : r.book ≡ book_of s n line
+  pub bytes : r.bytes ≡ bytes_in line.content
+
+-- all files of the script, each at rest
+pub record AreOfLines (s : Script) (files : List Resting) : Type 0 where
+  pub count : length files ≡ length s.files
+  pub each : (n : ℕ) (line : FileLine) (r : Resting) → slice_get s.files n ≡ Some line → slice_get files n ≡ Some r
+      → IsOfLine s n line r
 
 -- ---- a phase
 

@@ -1,6 +1,7 @@
 //! Laws of the top call.
 
 ghost use Rattle.mf_top.specs.Laws.{OneAnswer, Completes, ReadsAreServed};
+ghost use Rattle.mf_top.specs.Laws.{DigestsAreOfCells, ConversionsReadNoData};
 
 /// Words and a text have one status and one answer, where no command lacks memory.
 pub fn one_answer()
@@ -17,4 +18,16 @@ pub fn ends_well()
 /// want of memory, or more names of one stripe lost than the generation bears.
 pub fn reads_are_served()
     ensures { ReadsAreServed }
+{}
+
+/// In each report of a run, a line of a chunk that is here has the digest of the bytes that the
+/// plain encoding of the bytes of the script's file gives it.
+pub fn digests_are_of_cells()
+    ensures { DigestsAreOfCells }
+{}
+
+/// In each report of a run the conversions, taken together, read no data and no copy, and so their
+/// line begins with two zeros.
+pub fn conversions_read_no_data()
+    ensures { ConversionsReadNoData }
 {}

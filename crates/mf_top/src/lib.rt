@@ -12,7 +12,9 @@ mod phases;
 mod writing;
 
 use answers::answer;
-pub use laws::{ends_well, one_answer, reads_are_served};
+pub use laws::{
+    conversions_read_no_data, digests_are_of_cells, ends_well, one_answer, reads_are_served,
+};
 use mf_client::{Free, Turnstile};
 use mf_io::{ReadAll, Sink, Source, read_all};
 use mf_report::{too_long_line, words_line};

@@ -6,10 +6,11 @@ ghost use Rattle.std.specs.Prelude.{All, IfOk, OnOk, Some};
 ghost use Rattle.mf_client.specs.declared.done.Done.{Done};
 ghost use Rattle.mf_client.specs.Clients.{phases_in};
 ghost use Rattle.mf_plain.specs.Alone.{first_actor};
-ghost use Rattle.mf_plain.specs.Resting.{Resting};
+ghost use Rattle.mf_plain.specs.Resting.{Resting, AtRest};
 ghost use Rattle.mf_plain.specs.Whole.{actor_of};
 ghost use Rattle.mf_client.specs.Runs.{IsSmall};
 ghost use Rattle.mf_top.specs.PlainRun.{new_file, new_files, left_by, RunsPhase, IsPlainRun};
+ghost use Rattle.mf_top.specs.PlainRun.{AreOfLines};
 ghost use Rattle.mf_top.specs.Between.{IsOfText, AreBehind};
 
 use mf_client::{Done, Turnstile, run_client};
@@ -36,6 +37,7 @@ pub fn run<T: Turnstile>(
 ) -> Result<PhaseRun, AllocError>
     requires { IsOfText script.now }
     ensures plain { IfOk result (λ ran. IsPlainRun script.now ran.done.items ran.files.items) }
+    ensures left { IfOk result (λ ran. AreOfLines script.now ran.files.items) }
     ensures few { IfOk result (λ ran. length ran.done.items ≤ 4096) }
     ensures small { IfOk result (λ ran. All (λ (d : Done). IsSmall d.io) ran.done.items) }
 {
@@ -46,7 +48,17 @@ pub fn run<T: Turnstile>(
         files = ran.files;
         append(&mut done, ran.done)?;
     }
+    are_at_rest(&files);
     Ok(PhaseRun { files, done })
+}
+
+// Files keep that they are at rest.
+fn are_at_rest(files: &[Plain])
+    ensures { All AtRest files.now }
+{
+    for plain in files {
+        plain.is_at_rest();
+    }
 }
 
 // How many phases a script has.

@@ -4,7 +4,7 @@ use Rattle.mf_client.specs.declared.done.Done.{Done}
 use Rattle.mf_client.specs.Runs.{IsSmall}
 use Rattle.mf_top.specs.Between.{AreBehind}
 use Rattle.mf_top.proofs.Limits.{limits}
-use Rattle.mf_top.proofs.Running.{begins, run_next, run_ends, plain_few}
+use Rattle.mf_top.proofs.Running.{begins, run_next, run_ends, plain_few, of_lines}
 use Rattle.mf_top.proofs.phases.run.Goals as goal
 
 pub loop-phase-init : goal.loop-phase-init
@@ -40,3 +40,8 @@ returns-clause-few g c =
 
 pub returns-clause-small : goal.returns-clause-small
 returns-clause-small g c = c.loop-phase.invariant.2
+
+pub returns-clause-left : goal.returns-clause-left
+returns-clause-left g c =
+    of_lines c.args.script.now c.loop-phase.phase c.loop-phase.files.items c.deref.result.now c.loop-phase.invariant.1
+    (sym c.deref.ensures.value) c.are_at_rest.ensures

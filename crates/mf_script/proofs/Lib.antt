@@ -3,6 +3,7 @@ pub mod TextLemmas
 pub mod PassLemmas
 pub mod Building
 pub mod RoundTrip
+pub mod PhaseLemmas
 pub mod ScriptLemmas
 pub mod ReadingLemmas
 pub mod Exclusive

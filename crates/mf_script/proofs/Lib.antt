@@ -4,6 +4,7 @@ pub mod PassLemmas
 pub mod Building
 pub mod RoundTrip
 pub mod PhaseLemmas
+pub mod PolicyLemmas
 pub mod ScriptLemmas
 pub mod ReadingLemmas
 pub mod Exclusive

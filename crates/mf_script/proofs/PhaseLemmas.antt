@@ -1,9 +1,10 @@
 -- Phases and ticks, item by item, and how many ticks there may be.
-use Rattle.std.proofs.Common.{◌≡◌, ℕ, zero, suc, ◌+◌, ◌*◌, ◌^◌, ◌<◌, ◌≤◌, List, [], ◌∷◌, ◌++◌, length, drop, get_or}
+use Rattle.std.proofs.Common.{◌≡◌, ℕ, zero, suc, ◌+◌, ◌-◌, ◌*◌, ◌^◌, ◌<◌, ◌≤◌, List, [], ◌∷◌, ◌++◌, length, take, drop, get_or}
 use Rattle.std.proofs.Common.{refl, sym, ap, ◌∙◌, subst, arith, lit<}
-use Rattle.std.specs.List.{join_with_byte}
-use Rattle.std.proofs.lemmas.List.{length-append}
+use Rattle.std.specs.List.{join_with_byte, flat_map}
+use Rattle.std.proofs.lemmas.List.{length-append, append_assoc}
 use Rattle.mf_text.specs.Lines.{lines_of}
+use Rattle.mf_places.specs.declared.losses.LoseLine.{LoseLine}
 use Rattle.mf_lines.specs.declared.parts.Command.{Command}
 use Rattle.mf_lines.specs.declared.parts.Client.{Client}
 use Rattle.mf_lines.specs.declared.parts.Item.{Item}
@@ -16,6 +17,7 @@ use Rattle.mf_lines.proofs.AgeLemmas.{IsTimely}
 use Rattle.mf_lines.proofs.FormLemmas.{line_is}
 use Rattle.mf_script.specs.Texts.{MakeForms}
 use Rattle.mf_script.specs.Scripts.{IsScript}
+use Rattle.mf_script.specs.Losses.{phase_losses}
 use Rattle.mf_script.specs.Phases.{ticks_ahead}
 use Rattle.mf_script.proofs.RoundTrip.{lines_le}
 
@@ -56,6 +58,21 @@ pub ticks_beyond : (items : List Item) (i : ℕ) (x : Item) (clients : List Clie
     → ticks_ahead (drop i items) n ≡ ticks_ahead (drop (i + 1) items) m
 ticks_beyond items i x clients n m low is e more =
     (λ j. ticks_ahead (drop_next items i x (item.Phase clients) low is e j) (more j))
+
+pub one_less : (n : ℕ) → (n ≡ 0 → ⊥) → n ≡ suc (n - 1)
+one_less zero some = absurd (some refl)
+one_less (suc n) some = omega arith
+
+-- the lose lines of one phase more
+pub losses_more : (start losses new : List LoseLine) (left m : ℕ) (clients : List Client)
+    (before behind : List (List Client)) → before ≡ clients ∷ behind → left ≡ suc m
+    → new ≡ losses ++ phase_losses clients
+    → losses ++ flat_map phase_losses (take left before) ≡ start
+    → new ++ flat_map phase_losses (take m behind) ≡ start
+losses_more start losses new left m clients before behind split more is so =
+    ap (λ ls. ls ++ flat_map phase_losses (take m behind)) is
+    ∙ append_assoc losses (phase_losses clients) (flat_map phase_losses (take m behind))
+    ∙ sym (λ i. losses ++ flat_map phase_losses (take (more i) (split i))) ∙ so
 
 -- ---- ticks only grow, and fit in 64 bits
 

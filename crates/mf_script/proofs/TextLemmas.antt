@@ -1,6 +1,6 @@
 -- The text of a script, written from front to back.
 use Rattle.std.proofs.Common.{◌≡◌, ℕ, ◌+◌, ◌<◌, List, [], ◌∷◌, ◌++◌, map, length, get_or, take, refl, sym, ap, ◌∙◌}
-use Rattle.std.specs.Prelude.{codes, Result, Ok, Err, OnOk, Option, Some, None, Bor, option_copied}
+use Rattle.std.specs.Prelude.{codes, Result, Ok, Err, OnOk, Option, Some, None}
 use Rattle.std.specs.List.{flat_map, join_with_byte}
 use Rattle.std.proofs.lemmas.Grind.{flat_map-append}
 use Rattle.std.proofs.lemmas.List.{append_assoc, append-nil, map_more, take_more}

@@ -460,9 +460,7 @@ fn may_follow(last: LineWord, next: LineWord) -> bool
         LineWord::Servers => matches!(next, LineWord::Chunk),
         LineWord::Chunk => matches!(next, LineWord::Points),
         LineWord::Points => matches!(next, LineWord::Stage),
-        LineWord::Stage => {
-            matches!(next, LineWord::Stage | LineWord::Policy | LineWord::File)
-        }
+        LineWord::Stage => { matches!(next, LineWord::Stage | LineWord::Policy | LineWord::File) }
         LineWord::Policy => matches!(next, LineWord::File),
         LineWord::File => matches!(
             next,

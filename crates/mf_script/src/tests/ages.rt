@@ -55,12 +55,16 @@ fn faults_of_ticks_and_sweeps_are_told(rt: HostRuntime) -> Result<(), Fail> {
 }
 
 // Two phases, the second behind 1,000,000,007 ticks, and a sweep in it.
-const AGED: &[u8] = b"policy 0 1000000000\nfile a text abcd\ntick 1\nphase\nclient\ncreate a\nlose 1\ntick 0\ntick 1000000000\ntick 7\nphase\nclient\nsweep\nlose 2\ntick 9\nend";
+const AGED: &[u8] =
+    b"policy 0 1000000000\nfile a text abcd\ntick 1\nphase\nclient\ncreate a\nlose 1\ntick 0\ntick 1000000000\ntick 7\nphase\nclient\nsweep\nlose 2\ntick 9\nend";
 
 #[test]
 fn ticks_lie_between_the_phases(rt: HostRuntime) -> Result<(), Fail> {
     let alloc = rt.alloc();
-    let mut text = Vec::from_slice(alloc, b"morph 1\nservers 6\nchunk 1\npoints 1 2\nstage 2 2 1\nstage 4 2 0\n")?;
+    let mut text = Vec::from_slice(
+        alloc,
+        b"morph 1\nservers 6\nchunk 1\npoints 1 2\nstage 2 2 1\nstage 4 2 0\n",
+    )?;
     text.extend_from_slice(AGED)?;
     assert!(rt; is_printed_again(alloc, &text));
     let script = read_script(alloc, &text).or(Err("refused"))?;

@@ -1,5 +1,5 @@
 -- Thresholds and ticks, as lines give them, and sweeps.
-use Rattle.std.proofs.Common.{◌≡◌, ℕ, zero, suc, ◌+◌, ◌<◌, ◌≤◌, Bool, true, false, not, eqb, ltb, List, [], ◌∷◌, map}
+use Rattle.std.proofs.Common.{◌≡◌, ℕ, zero, suc, ◌+◌, ◌<◌, ◌≤◌, Bool, true, false, not, eqb, ltb, List, [], ◌∷◌}
 use Rattle.std.proofs.Common.{length, refl, sym, ap, ◌∙◌, subst, arith, Ok}
 use Rattle.std.specs.Prelude.{slice_index, is_some}
 use Rattle.std.specs.List.{list_any}
@@ -7,12 +7,10 @@ use Rattle.std.proofs.lemmas.Bool.{and_parts, ltb-true, ltb-false, eqb-true, not
 use Rattle.std.proofs.lemmas.List.{length-map}
 use Rattle.mf_text.specs.Decimal.{decimal_text}
 use Rattle.mf_policy.specs.Policies.{IsPolicy}
-use Rattle.mf_lines.specs.declared.parts.Act.{Act}
 use Rattle.mf_lines.specs.declared.parts.Act.TheVariants as act
 use Rattle.mf_lines.specs.declared.parts.Kind.TheVariants as kind
 use Rattle.mf_lines.specs.declared.parts.LimitName.{LimitName}
 use Rattle.mf_lines.specs.declared.parts.LimitName.TheVariants as limit
-use Rattle.mf_lines.specs.declared.words.Verb.{Verb}
 use Rattle.mf_lines.specs.declared.words.Verb.TheVariants as verb
 use Rattle.mf_lines.specs.declared.words.LineWord.{LineWord}
 use Rattle.mf_lines.specs.declared.words.LineWord.TheVariants as word

@@ -1,7 +1,7 @@
 -- Lists: tests on the elements of a mapped list, the last element, the words of a line.
 use Rattle.std.proofs.Common.{◌≡◌, ℕ, zero, suc, ◌+◌, ◌-◌, ◌<◌, ◌≤◌, Bool, true, false, ◌||◌, not, cond, eqb, ltb}
-use Rattle.std.proofs.Common.{leb, List, [], ◌∷◌, ◌++◌, length, take, drop, map, get_or, Option, Some, None, Result}
-use Rattle.std.proofs.Common.{Ok, Err, Bor, refl, sym, ap, ◌∙◌, inl, inr, arith}
+use Rattle.std.proofs.Common.{List, [], ◌∷◌, ◌++◌, length, take, drop, map, get_or, Option, Some, None, Result}
+use Rattle.std.proofs.Common.{Ok, Err, Bor, refl, sym, ap, ◌∙◌, arith}
 use Rattle.std.specs.List.{list_any, find, flat_map, position, position_or_len, join_with_byte}
 use Rattle.std.proofs.lemmas.Bool.{cond-true, cond-false, eq-eqb, ne_eqb, or_parts, ltb-false}
 use Rattle.std.specs.Prelude.{codes, option_to_list, is_some, OnOk}

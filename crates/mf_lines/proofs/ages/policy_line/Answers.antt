@@ -1,5 +1,5 @@
-use Rattle.std.proofs.Common.{◌≡◌, ◌≤◌, ◌∙◌, ap, sym, length, arith, true}
-use Rattle.std.proofs.lemmas.Bool.{eqb-true, not-false}
+use Rattle.std.proofs.Common.{◌∙◌, ap, sym, arith}
+use Rattle.std.proofs.lemmas.Bool.{eqb-true}
 use Rattle.mf_lines.specs.Words.{behind}
 use Rattle.mf_lines.specs.Lines.{are_thresholds}
 use Rattle.mf_lines.proofs.AgeLemmas.{is_policy, many_numbers}

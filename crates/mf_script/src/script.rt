@@ -49,7 +49,7 @@ impl Model for Script {
 
 impl Script {
     ghost use Rattle.std.specs.Prelude.{◌≡◌, ◌<◌, ◌≤◌, ℕ, List, length, slice_index, option_copied};
-    ghost use Rattle.std.specs.Prelude.{IfOk};
+    ghost use Rattle.std.specs.Prelude.{IfOk, IfSome};
     ghost use Rattle.mf_lines.specs.Meaning.{main_of};
     ghost use Rattle.mf_script.specs.Scripts.{code_of, IsScript};
     ghost use Rattle.mf_script.specs.Losses.{losses_of};
@@ -78,9 +78,11 @@ impl Script {
         self.chunk
     }
 
-    /// The policy, if there is one.
+    /// The policy, if there is one. It has a threshold for each stage.
     pub fn policy(&self) -> Option<&Policy>
-        ensures { option_copied result ≡ self.now.policy }
+        ensures value { option_copied result ≡ self.now.policy }
+        ensures stages { IfSome self.now.policy
+            (λ thresholds. length thresholds ≡ length (main_of self.now).stages) }
     {
         self.policy.as_ref()
     }

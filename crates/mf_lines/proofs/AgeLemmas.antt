@@ -1,9 +1,9 @@
--- Thresholds and ticks, as lines give them, and sweeps.
-use Rattle.std.proofs.Common.{◌≡◌, ℕ, zero, suc, ◌+◌, ◌<◌, ◌≤◌, Bool, true, false, not, eqb, ltb, List, [], ◌∷◌}
+-- Thresholds and ticks, as lines give them, clients and sweeps.
+use Rattle.std.proofs.Common.{◌≡◌, ℕ, zero, suc, ◌+◌, ◌<◌, ◌≤◌, Bool, true, false, not, eqb, ltb, leb, List, [], ◌∷◌}
 use Rattle.std.proofs.Common.{length, refl, sym, ap, ◌∙◌, subst, arith, Ok}
 use Rattle.std.specs.Prelude.{slice_index, is_some}
 use Rattle.std.specs.List.{list_any}
-use Rattle.std.proofs.lemmas.Bool.{and_parts, ltb-true, ltb-false, eqb-true, not-false}
+use Rattle.std.proofs.lemmas.Bool.{and_parts, ltb-true, ltb-false, leb-false, eqb-true, not-false}
 use Rattle.std.proofs.lemmas.List.{length-map}
 use Rattle.mf_text.specs.Decimal.{decimal_text}
 use Rattle.mf_policy.specs.Policies.{IsPolicy}
@@ -19,7 +19,7 @@ use Rattle.mf_lines.specs.declared.forms.Form.TheVariants as says
 use Rattle.mf_lines.specs.Words.{◌>>=◌, refuse, no_words, one_word, spelled}
 use Rattle.mf_lines.specs.Meaning.{SoFar, main_of, first_word}
 use Rattle.mf_lines.specs.Lines.{within, is_above, command_fits, numbers_in, rises_behind, are_thresholds, policy_form}
-use Rattle.mf_lines.specs.Lines.{tick_form, sweep_operand, form_in}
+use Rattle.mf_lines.specs.Lines.{tick_form, client_form, sweep_operand, form_in}
 use Rattle.mf_lines.proofs.LineWordLemmas.{bound, not_refused, numbers_are}
 
 rises : (last : ℕ) (ns : List ℕ) (k : ℕ) → rises_behind last ns ≡ true → suc k < length (last ∷ ns)
@@ -44,7 +44,7 @@ is_policy (n ∷ ns) e few =
 pub many_numbers : (words : List (List ℕ)) (ns : List ℕ) → numbers_in words ≡ Ok ns → length ns ≡ length words
 many_numbers words ns e = sym (ap length (numbers_are words ns e) ∙ length-map ns decimal_text)
 
--- ---- ticks and sweeps
+-- ---- ticks, clients and sweeps
 
 within_one : (p : Bool) (l : LimitName) (u : Unit {0}) → within ((p, l) ∷ []) ≡ Ok u → p ≡ false
 within_one true l u e = absurd cc
@@ -60,6 +60,12 @@ tick_small ws ticks e =
     let same : b.value ≡ ticks = cc in
     let low = ltb-false 1000000000 b.value (within_one (ltb 1000000000 b.value) limit.Tick c.value c.is) in
     omega (arith, same, low)
+
+client_room : (so : SoFar) (ws : List (List ℕ)) (form : Form) → client_form so ws ≡ Ok form → so.clients < 8
+client_room so ws form e =
+    let a = bound (no_words ws) _ form e in
+    let b = bound (within ((leb 8 so.clients, limit.Clients) ∷ [])) (λ _. Ok says.Client) form a.next in
+    leb-false 8 so.clients (within_one (leb 8 so.clients) limit.Clients b.value b.is)
 
 sweep_known : (so : SoFar) (ws : List (List ℕ)) (form : Form) → form_in so (word.Command verb.Sweep) ws ≡ Ok form
     → is_some so.script.policy ≡ true
@@ -88,10 +94,12 @@ policy_many so ws thresholds e =
     ∙ eqb-true (length ws) many
     (not-false (eqb (length ws) many) (not_refused (not (eqb (length ws) many)) kind.Arity same.value same.is))
 
--- a policy has as many thresholds as there are stages, a tick is at most a billion, and a sweep stands behind a policy
+-- a policy has as many thresholds as there are stages, a tick is at most a billion, a client stands behind fewer than
+-- eight, and a sweep behind a policy
 abbrev pub IsTimely : SoFar → Form → Type 0
 IsTimely so (says.Policy thresholds) = length thresholds ≡ length (main_of so.script).stages
 IsTimely so (says.Tick ticks) = ticks ≤ 1000000000
+IsTimely so says.Client = so.clients < 8
 IsTimely so (says.Command act.Sweep) = is_some so.script.policy ≡ true
 IsTimely so form = Unit {0}
 
@@ -101,6 +109,8 @@ is_timely so first ws (says.Policy thresholds) e is =
     policy_many so ws thresholds (subst (λ f. form_in so f ws ≡ Ok (says.Policy thresholds)) (sym is) e)
 is_timely so first ws (says.Tick ticks) e is =
     tick_small ws ticks (subst (λ f. form_in so f ws ≡ Ok (says.Tick ticks)) (sym is) e)
+is_timely so first ws says.Client e is =
+    client_room so ws says.Client (subst (λ f. form_in so f ws ≡ Ok says.Client) (sym is) e)
 is_timely so first ws (says.Command act.Sweep) e is =
     sweep_known so ws (says.Command act.Sweep)
     (subst (λ f. form_in so f ws ≡ Ok (says.Command act.Sweep)) (sym is) e)

@@ -70,10 +70,10 @@ form_read so last word.Phase ws form was follows e =
     (bare_read (names_in so.script.files) word.Phase ws a.value says.Phase form a.is (let n =
     b.next in cc) refl refl tt tt)
 form_read so last word.Client ws form was follows e =
-    let a = bound (refuse (leb 1 so.clients) kind.Unknown) _ form e in
-    let b = bound (no_words ws) (λ _. Ok says.Client) form a.next in
+    let a = bound (no_words ws) _ form e in
+    let b = bound (within ((leb 8 so.clients, limit.Clients) ∷ [])) (λ _. Ok says.Client) form a.next in
     as_it_is so word.Client ws form e
-    (bare_read (names_in so.script.files) word.Client ws b.value says.Client form b.is (let n =
+    (bare_read (names_in so.script.files) word.Client ws a.value says.Client form a.is (let n =
     b.next in cc) refl refl tt tt)
 form_read so last (word.Command v) ws form was follows e =
     command_read so v ws form (ap knows_servers was ∙ knows_command last v follows) e

@@ -213,11 +213,11 @@ phase_form so words = do
   _ ← within ((nat_le 64 so.phases, limit.Phases) ∷ [])
   Ok says.Phase
 
--- `client`; a phase has one
+-- `client`
 abbrev pub client_form : SoFar → List (List ℕ) → Result Form Kind
 client_form so words = do
-  _ ← refuse (nat_le 1 so.clients) kind.Unknown
   _ ← no_words words
+  _ ← within ((nat_le 8 so.clients, limit.Clients) ∷ [])
   Ok says.Client
 
 -- one command more passes no limit

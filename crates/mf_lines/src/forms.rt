@@ -39,6 +39,8 @@ const MAX_NUMBER: u64 = 4_294_967_295;
 
 const MAX_PHASES: u32 = 64;
 
+const MAX_CLIENTS: u32 = 8;
+
 const MAX_COMMANDS: u32 = 1_024;
 
 /// What a line says: its form.
@@ -229,10 +231,8 @@ fn phase_line(draft: &Draft, rest: Option<&[u8]>) -> Result<Form, Kind>
 fn client_line(draft: &Draft, rest: Option<&[u8]>) -> Result<Form, Kind>
     ensures { result ≡ client_form (so_in draft.now) (behind rest.entry) }
 {
-    if draft.clients >= 1 {
-        return Err(Kind::Unknown);
-    }
     end_words(rest)?;
+    within(&[(draft.clients >= MAX_CLIENTS, LimitName::Clients)])?;
     Ok(Form::Client)
 }
 

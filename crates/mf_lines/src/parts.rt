@@ -34,8 +34,7 @@ pub enum Kind {
     Text,
     /// The first line isn't `morph 1`, or there is none.
     Header,
-    /// No line begins with this word, no content has this name, or this is a second client of its
-    /// phase.
+    /// No line begins with this word, or no content has this name.
     Unknown,
     /// No line of this kind has so many words, or the bytes of a `text` file are none.
     Arity,

@@ -5,6 +5,7 @@ pub mod Building
 pub mod RoundTrip
 pub mod PhaseLemmas
 pub mod PolicyLemmas
+pub mod ClientLemmas
 pub mod ScriptLemmas
 pub mod ReadingLemmas
 pub mod Exclusive

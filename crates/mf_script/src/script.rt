@@ -50,7 +50,7 @@ impl Model for Script {
 impl Script {
     ghost use Rattle.std.specs.Prelude.{◌≡◌, ◌<◌, ◌≤◌, ℕ, List, length, slice_index, option_copied};
     ghost use Rattle.std.specs.Prelude.{IfOk, IfSome};
-    ghost use Rattle.mf_lines.specs.Meaning.{main_of};
+    ghost use Rattle.mf_lines.specs.Meaning.{main_of, phases_in};
     ghost use Rattle.mf_script.specs.Scripts.{code_of, IsScript};
     ghost use Rattle.mf_script.specs.Losses.{losses_of};
     ghost use Rattle.mf_script.specs.Phases.{clients_of, ticks_before};
@@ -119,11 +119,13 @@ impl Script {
         Ok(losses)
     }
 
-    /// The clients of a phase, in order; phases are numbered from 1, and one that isn't there has
-    /// no clients.
+    /// The clients of a phase, in order: one to eight. Phases are numbered from 1, and one that
+    /// isn't there has no clients.
     pub fn clients(&self, phase: u32) -> &[Client]
         requires { 1 ≤ phase }
-        ensures { result.now ≡ clients_of self.now phase }
+        ensures value { result.now ≡ clients_of self.now phase }
+        ensures many { phase ≤ length (phases_in self.now.items)
+            → (1 ≤ length (clients_of self.now phase)) × (length (clients_of self.now phase) ≤ 8) }
     {
         clients_at(&self.items, phase - 1)
     }

@@ -47,7 +47,7 @@ static UNREADABLE: [(u32, &[u8], &[u8]); 18] = [
     (1, b"end", b"header"),
 ];
 
-static UNKNOWN: [(u32, &[u8], &[u8]); 18] = [
+static UNKNOWN: [(u32, &[u8], &[u8]); 16] = [
     (2, b"server 6", b"unknown"),
     (2, b"serverss 6", b"unknown"),
     (3, b"", b"unknown"),
@@ -57,8 +57,6 @@ static UNKNOWN: [(u32, &[u8], &[u8]); 18] = [
     (7, b"file a  x", b"unknown"),
     (7, b"file A blob", b"unknown"),
     (8, b"ticks 1", b"unknown"),
-    (10, b"client", b"unknown"),
-    (10, b"client 1", b"unknown"),
     (10, b"holds a", b"unknown"),
     (10, b"remov a", b"unknown"),
     (11, b"rea", b"unknown"),
@@ -87,13 +85,14 @@ static ARITIES_FRONT: [(u32, &[u8], &[u8]); 16] = [
     (7, b"file a hex", b"arity"),
 ];
 
-static ARITIES_BACK: [(u32, &[u8], &[u8]); 16] = [
+static ARITIES_BACK: [(u32, &[u8], &[u8]); 17] = [
     (7, b"file a hex 61 62", b"arity"),
     (7, b"file a pattern 1", b"arity"),
     (7, b"file a pattern 1 0 0", b"arity"),
     (8, b"phase ", b"arity"),
     (8, b"phase 1", b"arity"),
     (9, b"client 1", b"arity"),
+    (10, b"client 1", b"arity"),
     (9, b"morph", b"arity"),
     (9, b"morph 1 1", b"arity"),
     (10, b"create", b"arity"),
@@ -503,7 +502,7 @@ fn the_first_faulty_line_is_told(rt: HostRuntime) -> Result<(), Fail> {
         (12, b"dump a\nend", b"\ndump a", 14, b"twice"),
         (0, b"", b"\nend", 13, b"order"),
         (0, b"", b"\nfile a text ", 13, b"arity"),
-        (0, b"", b"\nclient", 13, b"unknown"),
+        (0, b"", b"\nclient", 13, b"order"),
         (0, b"", b"\n\n", 13, b"unknown"),
         (0, b"", b"\r", 12, b"text"),
         (2, b"servers 06", b"\t", 2, b"number"),
@@ -616,12 +615,15 @@ fn a_script_has_at_most_64_files_of_at_most_1_024_chunks(rt: HostRuntime) -> Res
 }
 
 #[test]
-fn a_script_has_at_most_64_phases_and_1_024_commands(rt: HostRuntime) -> Result<(), Fail> {
+fn a_script_has_at_most_64_phases_of_8_clients_and_1_024_commands(
+    rt: HostRuntime,
+) -> Result<(), Fail> {
     let alloc = rt.alloc();
     // The lines before, those of one more, how many of them are allowed, and the line and the limit of one more.
-    let cases: [(&[u8], &[u8], usize, u32, &[u8]); 2] = [
+    let cases: [(&[u8], &[u8], usize, u32, &[u8]); 3] = [
         (&SCRIPT[..78], b"phase\nclient\n", 64, 136, b"limit phases"),
         (&SCRIPT[..91], b"read a\n", 1_024, 1_034, b"limit commands"),
+        (&SCRIPT[..84], b"client\n", 8, 17, b"limit clients"),
     ];
     for (front, part, most, line, name) in cases {
         let text = repeated(alloc, front, part, most, b"end")?;
@@ -629,6 +631,19 @@ fn a_script_has_at_most_64_phases_and_1_024_commands(rt: HostRuntime) -> Result<
         let text = repeated(alloc, front, part, most, part)?;
         assert!(rt; has_fault(alloc, &text, line, name), "line {line}");
     }
+    // A ninth client is told before the order of lines.
+    let backs: [&[u8]; 4] = [
+        b"tick 1\nclient",
+        b"dump a\nclient",
+        b"end\nclient",
+        b"read a\nclient",
+    ];
+    for back in backs {
+        let text = repeated(alloc, &SCRIPT[..84], b"client\n", 8, back)?;
+        assert!(rt; has_fault(alloc, &text, 18, b"limit clients"));
+    }
+    let text = repeated(alloc, &SCRIPT[..84], b"client\n", 8, b"phase\nclient\nend")?;
+    assert!(rt; is_printed_again(alloc, &text));
     let text = repeated(alloc, &SCRIPT[..91], b"read a\n", 1_024, b"read b")?;
     assert!(rt; has_fault(alloc, &text, 1_034, b"limit commands"));
     let text = repeated(alloc, &SCRIPT[..91], b"read a\n", 1_024, b"lose 6")?;

@@ -24,6 +24,7 @@ act_text names act = line_text names (says.Command act)
 -- whether the operations of a command count among those of conversions
 abbrev pub converts : Act → Bool
 converts (act.Convert file away stop) = true
+converts act.Sweep = true
 converts any_other = false
 
 -- a command, and what came of it

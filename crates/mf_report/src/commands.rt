@@ -20,7 +20,7 @@ pub fn converts(act: &Act) -> bool
     ensures { result ≡ converts act.now }
 {
     match act {
-        Act::Convert { .. } => true,
+        Act::Convert { .. } | Act::Sweep => true,
         _ => false,
     }
 }

@@ -1,4 +1,6 @@
-use crate::{Act, Item, Kind, LimitName, content_bytes, print_script, read_script};
+mod ages;
+
+use crate::{Act, Kind, LimitName, content_bytes, print_script, read_script};
 use mf_check::FamilyFault;
 use mf_places::Servers;
 use mf_shape::ShapeFault;
@@ -45,18 +47,16 @@ static UNREADABLE: [(u32, &[u8], &[u8]); 18] = [
     (1, b"end", b"header"),
 ];
 
-static UNKNOWN: [(u32, &[u8], &[u8]); 18] = [
+static UNKNOWN: [(u32, &[u8], &[u8]); 16] = [
     (2, b"server 6", b"unknown"),
     (2, b"serverss 6", b"unknown"),
     (3, b"", b"unknown"),
     (3, b" chunk 1", b"unknown"),
-    (7, b"policy 0", b"unknown"),
+    (7, b"policies 0", b"unknown"),
     (7, b"file a blob x", b"unknown"),
     (7, b"file a  x", b"unknown"),
     (7, b"file A blob", b"unknown"),
-    (8, b"tick 1", b"unknown"),
-    (10, b"client", b"unknown"),
-    (10, b"client 1", b"unknown"),
+    (8, b"ticks 1", b"unknown"),
     (10, b"holds a", b"unknown"),
     (10, b"remov a", b"unknown"),
     (11, b"rea", b"unknown"),
@@ -85,13 +85,14 @@ static ARITIES_FRONT: [(u32, &[u8], &[u8]); 16] = [
     (7, b"file a hex", b"arity"),
 ];
 
-static ARITIES_BACK: [(u32, &[u8], &[u8]); 16] = [
+static ARITIES_BACK: [(u32, &[u8], &[u8]); 17] = [
     (7, b"file a hex 61 62", b"arity"),
     (7, b"file a pattern 1", b"arity"),
     (7, b"file a pattern 1 0 0", b"arity"),
     (8, b"phase ", b"arity"),
     (8, b"phase 1", b"arity"),
     (9, b"client 1", b"arity"),
+    (10, b"client 1", b"arity"),
     (9, b"morph", b"arity"),
     (9, b"morph 1 1", b"arity"),
     (10, b"create", b"arity"),
@@ -501,7 +502,7 @@ fn the_first_faulty_line_is_told(rt: HostRuntime) -> Result<(), Fail> {
         (12, b"dump a\nend", b"\ndump a", 14, b"twice"),
         (0, b"", b"\nend", 13, b"order"),
         (0, b"", b"\nfile a text ", 13, b"arity"),
-        (0, b"", b"\nclient", 13, b"unknown"),
+        (0, b"", b"\nclient", 13, b"order"),
         (0, b"", b"\n\n", 13, b"unknown"),
         (0, b"", b"\r", 12, b"text"),
         (2, b"servers 06", b"\t", 2, b"number"),
@@ -614,12 +615,15 @@ fn a_script_has_at_most_64_files_of_at_most_1_024_chunks(rt: HostRuntime) -> Res
 }
 
 #[test]
-fn a_script_has_at_most_64_phases_and_1_024_commands(rt: HostRuntime) -> Result<(), Fail> {
+fn a_script_has_at_most_64_phases_of_8_clients_and_1_024_commands(
+    rt: HostRuntime,
+) -> Result<(), Fail> {
     let alloc = rt.alloc();
     // The lines before, those of one more, how many of them are allowed, and the line and the limit of one more.
-    let cases: [(&[u8], &[u8], usize, u32, &[u8]); 2] = [
+    let cases: [(&[u8], &[u8], usize, u32, &[u8]); 3] = [
         (&SCRIPT[..78], b"phase\nclient\n", 64, 136, b"limit phases"),
         (&SCRIPT[..91], b"read a\n", 1_024, 1_034, b"limit commands"),
+        (&SCRIPT[..84], b"client\n", 8, 17, b"limit clients"),
     ];
     for (front, part, most, line, name) in cases {
         let text = repeated(alloc, front, part, most, b"end")?;
@@ -627,6 +631,19 @@ fn a_script_has_at_most_64_phases_and_1_024_commands(rt: HostRuntime) -> Result<
         let text = repeated(alloc, front, part, most, part)?;
         assert!(rt; has_fault(alloc, &text, line, name), "line {line}");
     }
+    // A ninth client is told before the order of lines.
+    let backs: [&[u8]; 4] = [
+        b"tick 1\nclient",
+        b"dump a\nclient",
+        b"end\nclient",
+        b"read a\nclient",
+    ];
+    for back in backs {
+        let text = repeated(alloc, &SCRIPT[..84], b"client\n", 8, back)?;
+        assert!(rt; has_fault(alloc, &text, 18, b"limit clients"));
+    }
+    let text = repeated(alloc, &SCRIPT[..84], b"client\n", 8, b"phase\nclient\nend")?;
+    assert!(rt; is_printed_again(alloc, &text));
     let text = repeated(alloc, &SCRIPT[..91], b"read a\n", 1_024, b"read b")?;
     assert!(rt; has_fault(alloc, &text, 1_034, b"limit commands"));
     let text = repeated(alloc, &SCRIPT[..91], b"read a\n", 1_024, b"lose 6")?;
@@ -732,8 +749,8 @@ fn a_script_has_what_its_lines_say(rt: HostRuntime) -> Result<(), Fail> {
     assert_eq!(rt; bytes.as_slice(), b" x ".as_slice());
     let bytes = content_bytes(alloc, &files[3].content)?;
     assert_eq!(rt; bytes.as_slice(), [250, 0, 1].as_slice());
-    let Item::Phase(clients) = script.items().first().ok_or("items")?;
-    let client = clients.as_slice().first().ok_or("clients")?;
+    let item = script.items().first().ok_or("items")?;
+    let client = item.clients().first().ok_or("clients")?;
     let read = client.commands.as_slice().get(1).ok_or("commands")?;
     assert_eq!(rt; read.line, 14);
     assert_eq!(rt;

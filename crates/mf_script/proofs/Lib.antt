@@ -9,3 +9,4 @@ pub mod ClientLemmas
 pub mod ScriptLemmas
 pub mod ReadingLemmas
 pub mod Exclusive
+pub mod Drawing

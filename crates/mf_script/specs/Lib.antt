@@ -7,3 +7,4 @@ pub mod Losses
 pub mod Faults
 pub mod Laws
 pub mod Printing
+pub mod Seeds

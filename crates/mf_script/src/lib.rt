@@ -8,6 +8,7 @@ mod phases;
 mod printing;
 mod reading;
 mod script;
+mod seeds;
 
 pub use contents::content_bytes;
 pub use mf_lines::{
@@ -17,7 +18,10 @@ pub use mf_lines::{
 pub use printing::print_script;
 pub use reading::read_script;
 pub use script::Script;
+pub use seeds::from_seed;
 pub use std::alloc::AllocError as Memory;
 
+#[cfg(test)]
+mod seed_tests;
 #[cfg(test)]
 mod tests;

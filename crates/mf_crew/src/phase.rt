@@ -12,7 +12,7 @@ use mf_client::{Done, Turnstile};
 use mf_plain::Plain;
 use mf_script::Script;
 use std::alloc::{AllocError, Global};
-use std::process::Wait;
+use std::sync::Wait;
 use std::thread::Threads;
 
 /// A phase that was run.

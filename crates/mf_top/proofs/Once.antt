@@ -20,7 +20,9 @@ use Rattle.mf_script.proofs.Exclusive.{one_answer as scripts_are}
 use Rattle.mf_lines.specs.declared.parts.Content.TheVariants as given
 use Rattle.mf_report.specs.Report.{report_text}
 use Rattle.mf_report.specs.Verdicts.{accepted_text, refused_text, words_refusal}
-use Rattle.mf_top.specs.PlainRun.{new_file, first_actors, left_by, RunsPhase, RunsTo, IsPlainRun}
+use Rattle.mf_crew.specs.Files.{left_by}
+use Rattle.mf_crew.specs.Alone.{first_actors, RunsPhase}
+use Rattle.mf_top.specs.PlainRun.{new_file, RunsTo, IsPlainRun}
 use Rattle.mf_top.specs.Answers.{task_words, AsksNothing, IsRefused, IsRun, IsAnswer}
 use Rattle.mf_top.specs.Answers.{reported, lacked, accepted, refused, no_words}
 use Rattle.mf_top.specs.Ends.{Call, Ends}
@@ -57,19 +59,20 @@ somes (x ∷ xs) (y ∷ ys) e =
     heads : (x y : Resting) (xs ys : List (Option Resting)) → Some x ∷ xs ≡ Some y ∷ ys → (x ≡ y) × (xs ≡ ys)
     heads x y xs ys e = (cc, cc)
 
-first_whole : (s : Script) (p : ℕ) (files : List Resting) → All IsWhole (first_actors s p files)
-first_whole s p files =
-    All-map IsWhole (λ r. first_actor r 0 (losses_of s p)) files
-    (All-from_get_or (λ r. IsWhole (first_actor r 0 (losses_of s p))) files (no_file tt) (λ i within. (_, refl)))
+first_whole : (s : Script) (p now : ℕ) (files : List Resting) → All IsWhole (first_actors s p now files)
+first_whole s p now files =
+    All-map IsWhole (λ r. first_actor r now (losses_of s p)) files
+    (All-from_get_or (λ r. IsWhole (first_actor r now (losses_of s p))) files (no_file tt) (λ i within. (_, refl)))
   where
     no_file : Unit {0} → Resting
     no_file u = new_file s 0 (record { name = []; content = given.Empty })
 
-phase_once : (s : Script) (p : ℕ) (files one other : List Resting) (ds es : List Done) → RunsPhase s p files ds one
-    → RunsPhase s p files es other → All HadMemory ds → All HadMemory es → (ds ≡ es) × (one ≡ other)
-phase_once s p files one other ds es a b had_a had_b =
-    let same = run_once s p 1 (first_actors s p files) a.actors b.actors ds es
-    (first_whole s p files) a.runs b.runs had_a had_b in
+phase_once : (s : Script) (p now : ℕ) (files one other : List Resting) (ds es : List Done)
+    → RunsPhase s p now files ds one → RunsPhase s p now files es other → All HadMemory ds → All HadMemory es
+    → (ds ≡ es) × (one ≡ other)
+phase_once s p now files one other ds es a b had_a had_b =
+    let same = run_once s p 1 (first_actors s p now files) a.actors b.actors ds es
+    (first_whole s p now files) a.runs b.runs had_a had_b in
     (same.0, somes one other (sym a.rest ∙ ap (map left_by) same.1 ∙ b.rest))
 
 runs_once : (s : Script) (n : ℕ) (ds es : List Done) (one other : List Resting) → RunsTo s n ds one
@@ -81,8 +84,8 @@ runs_once s (suc n) ds es one other a b had_a had_b =
     let all_b = subst (All HadMemory) b.5 had_b in
     let front = runs_once s n a.0 b.0 a.2 b.2 a.3 b.3 (all_front HadMemory a.0 a.1 all_a)
     (all_front HadMemory b.0 b.1 all_b) in
-    let mine : RunsPhase s (suc n) b.2 a.1 one = subst (λ files. RunsPhase s (suc n) files a.1 one) front.1 a.4 in
-    let last = phase_once s (suc n) b.2 one other a.1 b.1 mine b.4 (all_behind HadMemory a.0 a.1 all_a)
+    let mine : RunsPhase s (suc n) 0 b.2 a.1 one = subst (λ files. RunsPhase s (suc n) 0 files a.1 one) front.1 a.4 in
+    let last = phase_once s (suc n) 0 b.2 one other a.1 b.1 mine b.4 (all_behind HadMemory a.0 a.1 all_a)
     (all_behind HadMemory b.0 b.1 all_b) in
     (a.5 ∙ (λ i. front.0 i ++ last.0 i) ∙ sym b.5, last.1)
 

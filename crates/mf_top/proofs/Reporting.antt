@@ -35,7 +35,8 @@ use Rattle.mf_report.specs.Counts.{io_text}
 use Rattle.mf_report.specs.Commands.{converts}
 use Rattle.mf_report.specs.Report.{took, conversions}
 use Rattle.mf_report.proofs.Cells.{here_is_digest}
-use Rattle.mf_top.specs.PlainRun.{first_actors, RunsTo}
+use Rattle.mf_crew.specs.Alone.{first_actors}
+use Rattle.mf_top.specs.PlainRun.{RunsTo}
 use Rattle.mf_top.specs.Laws.{cell_text, DigestsAreOfCells, ConversionsReadNoData}
 
 -- ---- digests
@@ -100,7 +101,7 @@ runs_fine : (s : Script) (n : ℕ) (done : List Done) (files : List Resting) →
 runs_fine s zero done files h = subst (All Fine) (sym h.0) (All-nil Fine)
 runs_fine s (suc n) done files h =
     subst (All Fine) (sym h.5) (All-append Fine h.0 h.1 (runs_fine s n h.0 h.2 h.3)
-    (run_fine s (suc n) 1 1 (commands_of s (suc n) 1) (first_actors s (suc n) h.2) h.1 h.4.actors h.4.runs))
+    (run_fine s (suc n) 1 1 (commands_of s (suc n) 1) (first_actors s (suc n) 0 h.2) h.1 h.4.actors h.4.runs))
 
 -- ---- the sums of conversions
 

@@ -32,7 +32,7 @@ use Rattle.mf_report.specs.Counts.{io_text}
 use Rattle.mf_report.specs.Dumps.{chunk_text}
 use Rattle.mf_report.specs.Report.{took, conversions}
 use Rattle.mf_report.specs.Verdicts.{refused_text}
-use Rattle.mf_top.specs.PlainRun.{book_of}
+use Rattle.mf_crew.specs.Files.{book_of}
 use Rattle.mf_top.specs.Answers.{task_words, IsRun, IsAnswer}
 use Rattle.mf_top.specs.Ends.{Call, Ends}
 use Rattle.mf_top.specs.declared.Task.TheVariants.{Run, Check}

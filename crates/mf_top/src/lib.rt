@@ -11,14 +11,16 @@ mod laws;
 mod phases;
 mod writing;
 
-use answers::answer;
+use answers::{answer_to_check, answer_to_run};
 pub use laws::{
     conversions_read_no_data, digests_are_of_cells, ends_well, one_answer, reads_are_served,
 };
-use mf_client::{Free, Turnstile};
+use mf_client::Turnstile;
 use mf_io::{ReadAll, Sink, Source, read_all};
 use mf_report::{too_long_line, words_line};
 use std::alloc::Global;
+use std::sync::Wait;
+use std::thread::Threads;
 use writing::write_answer;
 
 /// The greatest number of bytes of a script.
@@ -64,8 +66,8 @@ enum Status {
 /// - 4: a write failed, and a front of the report or line was written;
 /// - 5: memory ran out, and nothing was written; or a command lacked memory, and the report that
 ///   says so was written whole.
-pub fn morph<R, S: Source, K: Sink, T: Turnstile>(
-    _rt: &R,
+pub fn morph<R: Threads + Wait + Sync, S: Source, K: Sink, T: Turnstile>(
+    rt: &R,
     alloc: Global,
     words: &[String],
     source: &mut S,
@@ -86,7 +88,7 @@ pub fn morph<R, S: Source, K: Sink, T: Turnstile>(
       };
     }) status }
 {
-    end_of(alloc, words, source, sink, turnstile) as u8
+    end_of(rt, alloc, words, source, sink, turnstile) as u8
 }
 
 /// Tries the family of the script that the source has left. It writes one line: `family ok stages
@@ -107,11 +109,12 @@ pub fn morph_check<S: Source, K: Sink>(alloc: Global, source: &mut S, sink: &mut
       };
     }) status }
 {
-    end_of_task(alloc, Task::Check, source, sink, &Free) as u8
+    end_of_check(alloc, source, sink) as u8
 }
 
 // How a call with these words ends.
-fn end_of<S: Source, K: Sink, T: Turnstile>(
+fn end_of<R: Threads + Wait + Sync, S: Source, K: Sink, T: Turnstile>(
+    rt: &R,
     alloc: Global,
     words: &[String],
     source: &mut S,
@@ -133,7 +136,8 @@ fn end_of<S: Source, K: Sink, T: Turnstile>(
     }) result }
 {
     match task_of(words) {
-        Some(task) => end_of_task(alloc, task, source, sink, turnstile),
+        Some(Task::Run) => end_of_run(rt, alloc, source, sink, turnstile),
+        Some(Task::Check) => end_of_check(alloc, source, sink),
         None => write_answer(sink, words_line(), Status::Words),
     }
 }
@@ -163,16 +167,16 @@ fn task_named(word: &str) -> Option<Task>
     }
 }
 
-// How a task ends.
-fn end_of_task<S: Source, K: Sink, T: Turnstile>(
+// How the run of a script ends.
+fn end_of_run<R: Threads + Wait + Sync, S: Source, K: Sink, T: Turnstile>(
+    rt: &R,
     alloc: Global,
-    task: Task,
     source: &mut S,
     sink: &mut K,
     turnstile: &T,
 ) -> Status
     ensures { Ends (record {
-      words = task_words task;
+      words = task_words Task.Run;
       left = S.left source.old;
       left_now = S.left source.new;
       faults = S.faults source.old;
@@ -186,7 +190,31 @@ fn end_of_task<S: Source, K: Sink, T: Turnstile>(
     }) result }
 {
     match read_all(alloc, source, TEXT_LIMIT) {
-        Ok(text) => answer(alloc, task, &text, sink, turnstile),
+        Ok(text) => answer_to_run(rt, alloc, &text, sink, turnstile),
+        Err(ReadAll::TooLong) => write_answer(sink, too_long_line(), Status::Refused),
+        Err(ReadAll::Fault) => Status::SourceFault,
+        Err(ReadAll::Memory) => Status::Memory,
+    }
+}
+
+// How the check of a script's family ends.
+fn end_of_check<S: Source, K: Sink>(alloc: Global, source: &mut S, sink: &mut K) -> Status
+    ensures { Ends (record {
+      words = task_words Task.Check;
+      left = S.left source.old;
+      left_now = S.left source.new;
+      faults = S.faults source.old;
+      faults_now = S.faults source.new;
+      output = record {
+        written = K.written sink.old;
+        written_now = K.written sink.new;
+        faults = K.faults sink.old;
+        faults_now = K.faults sink.new;
+      };
+    }) result }
+{
+    match read_all(alloc, source, TEXT_LIMIT) {
+        Ok(text) => answer_to_check(alloc, &text, sink),
         Err(ReadAll::TooLong) => write_answer(sink, too_long_line(), Status::Refused),
         Err(ReadAll::Fault) => Status::SourceFault,
         Err(ReadAll::Memory) => Status::Memory,

@@ -142,7 +142,7 @@ const CHECKS: [Case; 8] = [
 ];
 
 /// What a call with these words, this text and these failures answers and writes.
-fn try_case(rt: &impl Abort, alloc: Global, case: Case) -> Result<(), Fail> {
+fn try_case(rt: &(impl Abort + Threads + Wait + Sync), alloc: Global, case: Case) -> Result<(), Fail> {
     let Case(asked, text, read, write, status, written) = case;
     let mut words = Vec::new(alloc);
     for word in asked.split_whitespace() {

@@ -1,21 +1,51 @@
-use Rattle.std.proofs.Common.{All, sym, subst, arith}
+use Rattle.std.proofs.Common.{◌≡◌, ◌≤◌, ◌+◌, suc, All, sym, subst, arith}
 use Rattle.std.proofs.lemmas.List.Elements.{All-nil}
 use Rattle.mf_client.specs.declared.done.Done.{Done}
 use Rattle.mf_client.specs.Runs.{IsSmall}
-use Rattle.mf_top.specs.Between.{AreBehind}
+use Rattle.mf_crew.specs.Files.{AllRestBy}
 use Rattle.mf_top.proofs.Limits.{limits}
-use Rattle.mf_top.proofs.Running.{begins, run_next, run_ends, plain_few, of_lines}
+use Rattle.mf_top.proofs.Running.{begins, rest_on, has_phase, only_one, few_phases, run_next, run_ends}
+use Rattle.mf_top.proofs.Running.{plain_few, of_lines}
 use Rattle.mf_top.proofs.phases.run.Goals as goal
 
 pub loop-phase-init : goal.loop-phase-init
 loop-phase-init g c = (
   (c.new-done.ensures.items, c.in_ok-files.ensures),
-  subst (AreBehind c.args.script.now 0) (sym c.in_ok-files.ensures) (begins c.args.script.now),
+  subst (AllRestBy c.args.script.now 0 0) (sym c.in_ok-files.ensures) (begins c.args.script.now),
   subst (All (λ (d : Done). IsSmall d.io)) (sym c.new-done.ensures.items) (All-nil (λ (d : Done). IsSmall d.io)),
 )
 
+pub overflow_add-phase : goal.overflow_add-phase
+overflow_add-phase g c =
+    let all = limits c.requires.0 c.args.script.now c.requires.1 in
+    record {
+      fits = omega (
+        arith,
+        c.loop-phase-test.true,
+        c.loop-phase.auto.phase-end,
+        c.count_phases-phase-end.ensures,
+        few_phases c.args.script.now.items,
+        all.phases,
+      );
+    }
+
+pub run_phase-requires-clause-phase : goal.run_phase-requires-clause-phase
+run_phase-requires-clause-phase g c κs within =
+    has_phase c.args.script.now c.loop-phase.phase
+    (omega (arith, c.loop-phase-test.true, c.count_phases-phase-end.ensures))
+
+pub run_phase-requires-clause-one : goal.run_phase-requires-clause-one
+run_phase-requires-clause-one g c κs within =
+    let all = limits c.requires.0 c.args.script.now c.requires.1 in
+    only_one c.args.script.now c.loop-phase.phase all.single
+    (omega (arith, c.loop-phase-test.true, c.count_phases-phase-end.ensures))
+
 pub run_phase-requires-clause-rest : goal.run_phase-requires-clause-rest
-run_phase-requires-clause-rest g c κs within = c.loop-phase.invariant.1
+run_phase-requires-clause-rest g c κs within =
+    let next : suc c.loop-phase.phase ≡ c.loop-phase.phase + 1 = omega arith in
+    let same : 0 ≤ 0 = omega arith in
+    subst (λ n. AllRestBy c.args.script.now n 0 c.loop-phase.files.items) next
+    (rest_on c.args.script.now c.loop-phase.phase 0 0 c.loop-phase.files.items c.loop-phase.invariant.1 same)
 
 pub loop-phase-preserved : goal.loop-phase-preserved
 loop-phase-preserved g c =
@@ -43,5 +73,5 @@ returns-clause-small g c = c.loop-phase.invariant.2
 
 pub returns-clause-left : goal.returns-clause-left
 returns-clause-left g c =
-    of_lines c.args.script.now c.loop-phase.phase c.loop-phase.files.items c.deref.result.now c.loop-phase.invariant.1
+    of_lines c.args.script.now c.loop-phase.phase 0 c.loop-phase.files.items c.deref.result.now c.loop-phase.invariant.1
     (sym c.deref.ensures.value) c.are_at_rest.ensures

@@ -1,5 +1,5 @@
 -- What a phase finds, and what it leaves.
-use Rattle.std.proofs.Common.{◌≡◌, ℕ, ◌+◌, ◌<◌, ◌≤◌, Bool, true, false, List, [], ◌∷◌, ◌++◌, length, map, take, get_or}
+use Rattle.std.proofs.Common.{◌≡◌, ℕ, zero, suc, ◌+◌, ◌-◌, ◌<◌, ◌≤◌, Bool, true, false, List, [], ◌∷◌, ◌++◌, length, map, take, get_or}
 use Rattle.std.proofs.Common.{Option, Some, None, All, refl, sym, ap, ◌∙◌, subst, arith, cond}
 use Rattle.std.specs.Prelude.{slice_get}
 use Rattle.std.specs.Option.{option_map}
@@ -11,8 +11,11 @@ use Rattle.mf_machine.specs.Worlds.{World}
 use Rattle.mf_places.specs.Facts.{BookFacts}
 use Rattle.mf_lines.specs.declared.parts.Content.TheVariants as given
 use Rattle.mf_lines.specs.declared.parts.FileLine.{FileLine}
+use Rattle.mf_lines.specs.declared.parts.Item.{Item}
+use Rattle.mf_lines.specs.declared.parts.Item.TheVariants as item
 use Rattle.mf_lines.specs.Meaning.{Script}
 use Rattle.mf_script.specs.Losses.{losses_of}
+use Rattle.mf_script.specs.Scripts.{IsScript}
 use Rattle.mf_vault.specs.Facts.{Facts}
 use Rattle.mf_vault.specs.Actor.{Actor}
 use Rattle.mf_vault.specs.Conditions.{IsIdle}
@@ -21,10 +24,11 @@ use Rattle.mf_plain.specs.declared.access.PlainAccess.{PlainAccess}
 use Rattle.mf_plain.specs.Alone.{first_actor, rested}
 use Rattle.mf_plain.specs.Whole.{actor_of}
 use Rattle.mf_client.specs.declared.done.Done.{Done}
-use Rattle.mf_client.specs.Clients.{HasClient, clients_of, IsFileOf, AreFiles, facts_in}
+use Rattle.mf_client.specs.Clients.{HasClient, phases_in, clients_of, IsFileOf, AreFiles, facts_in}
 use Rattle.mf_client.specs.Runs.{Runs}
 use Rattle.mf_crew.specs.Files.{HasPhase, book_of, RestsBy, AllRestBy, left_by}
 use Rattle.mf_crew.specs.Alone.{first_actors, RunsPhase}
+use Rattle.mf_crew.proofs.Limits.{limits, IsSingle, Singles}
 
 -- ---- lists
 
@@ -162,6 +166,17 @@ leaves s p now files new actors are facts rest = record {
 }
 
 -- ---- a phase of one client
+
+-- each phase has one client
+pub one_client : (items : List Item) (k : ℕ) → Singles items → k < length (phases_in items)
+    → length (get_or (phases_in items) k []) ≡ 1
+unfolding Singles IsSingle
+one_client [] k h within = absurd (omega (arith, within))
+one_client (item.Phase clients ∷ items) zero h within = h.0
+one_client (item.Phase clients ∷ items) (suc k) h within = one_client items k h.1 (omega (arith, within))
+
+pub only_one : (text : List ℕ) (s : Script) (p : ℕ) → IsScript text s → HasPhase s p → length (clients_of s p) ≡ 1
+only_one text s p is has = one_client s.items (p - 1) (limits text s is).single (omega (arith, has.0, has.1))
 
 pub only_client : (s : Script) (p : ℕ) → HasPhase s p → length (clients_of s p) ≡ 1 → HasClient s p 1
 only_client s p has one = record { phases = has; clients = (omega arith, omega (arith, one)) }

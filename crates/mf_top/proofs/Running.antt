@@ -23,7 +23,7 @@ use Rattle.mf_client.specs.Runs.{RunsFrom}
 use Rattle.mf_crew.specs.Files.{HasPhase, RestsBy, AllRestBy}
 use Rattle.mf_crew.specs.Alone.{first_actors, RunsPhase}
 use Rattle.mf_top.specs.PlainRun.{new_file, new_from, new_files, AreOfLines, RunsTo, IsPlainRun}
-use Rattle.mf_top.proofs.Limits.{IsSingle, Singles, in_clients, in_item, in_items}
+use Rattle.mf_crew.proofs.Limits.{in_clients, in_item, in_items}
 
 -- ---- lists
 
@@ -133,14 +133,6 @@ of_lines s phases now files all are same rest =
 
 -- ---- phases and their clients
 
--- each phase has one client
-pub one_client : (items : List Item) (k : ℕ) → Singles items → k < length (phases_in items)
-    → length (get_or (phases_in items) k []) ≡ 1
-unfolding Singles IsSingle
-one_client [] k h within = absurd (omega (arith, within))
-one_client (item.Phase clients ∷ items) zero h within = h.0
-one_client (item.Phase clients ∷ items) (suc k) h within = one_client items k h.1 (omega (arith, within))
-
 pub phases_pushed : (items : List Item) (x : Item) → length (phases_in (items ++ x ∷ []))
     ≡ length (phases_in items) + length (phases_in (x ∷ []))
 phases_pushed [] x = omega arith
@@ -213,12 +205,6 @@ plain_few s done files h few =
 
 pub has_phase : (s : Script) (n : ℕ) → n < length (phases_in s.items) → HasPhase s (n + 1)
 has_phase s n within = (omega arith, omega (arith, within))
-
-pub only_one : (s : Script) (n : ℕ) → Singles s.items → n < length (phases_in s.items)
-    → length (clients_of s (n + 1)) ≡ 1
-only_one s n single within =
-    let back : n + 1 - 1 ≡ n = omega arith in
-    ap (λ k. length (get_or (phases_in s.items) k [])) back ∙ one_client s.items n single within
 
 -- one phase more
 pub run_next : (s : Script) (n : ℕ) (P : Done → Type 0) (done more new : List Done) (files mid : List Resting)

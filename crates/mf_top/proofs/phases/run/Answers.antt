@@ -3,8 +3,8 @@ use Rattle.std.proofs.lemmas.List.Elements.{All-nil}
 use Rattle.mf_client.specs.declared.done.Done.{Done}
 use Rattle.mf_client.specs.Runs.{IsSmall}
 use Rattle.mf_crew.specs.Files.{AllRestBy}
-use Rattle.mf_top.proofs.Limits.{limits}
-use Rattle.mf_top.proofs.Running.{begins, rest_on, has_phase, only_one, few_phases, run_next, run_ends}
+use Rattle.mf_crew.proofs.Limits.{limits}
+use Rattle.mf_top.proofs.Running.{begins, rest_on, has_phase, few_phases, run_next, run_ends}
 use Rattle.mf_top.proofs.Running.{plain_few, of_lines}
 use Rattle.mf_top.proofs.phases.run.Goals as goal
 
@@ -32,12 +32,6 @@ overflow_add-phase g c =
 pub run_phase-requires-clause-phase : goal.run_phase-requires-clause-phase
 run_phase-requires-clause-phase g c κs within =
     has_phase c.args.script.now c.loop-phase.phase
-    (omega (arith, c.loop-phase-test.true, c.count_phases-phase-end.ensures))
-
-pub run_phase-requires-clause-one : goal.run_phase-requires-clause-one
-run_phase-requires-clause-one g c κs within =
-    let all = limits c.requires.0 c.args.script.now c.requires.1 in
-    only_one c.args.script.now c.loop-phase.phase all.single
     (omega (arith, c.loop-phase-test.true, c.count_phases-phase-end.ensures))
 
 pub run_phase-requires-clause-rest : goal.run_phase-requires-clause-rest

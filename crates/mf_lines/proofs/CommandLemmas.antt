@@ -32,18 +32,18 @@ use Rattle.mf_lines.specs.declared.words.LineWord.TheVariants as word
 use Rattle.mf_lines.specs.declared.forms.Form.{Form}
 use Rattle.mf_lines.specs.declared.forms.Form.TheVariants as says
 use Rattle.mf_lines.specs.Words.{◌>>=◌, refuse, verb_text, word_text}
-use Rattle.mf_lines.specs.Words.{spelled}
+use Rattle.mf_lines.specs.Words.{spelled, no_words}
 use Rattle.mf_lines.specs.Meaning.{SoFar, names_in, verb_of, file_in}
 use Rattle.mf_lines.specs.Lines.{within, is_above, numbers_in}
 use Rattle.mf_lines.specs.Lines.{file_number}
 use Rattle.mf_lines.specs.Lines.{file_operand, form_in}
-use Rattle.mf_lines.specs.Lines.{knows_servers, lacks_server, server_operand}
+use Rattle.mf_lines.specs.Lines.{knows_servers, lacks_server, server_operand, sweep_operand}
 use Rattle.mf_lines.specs.Lines.{has_twice, away_words, servers_in, away_operands}
 use Rattle.mf_lines.specs.LineTexts.{name_at, listed, behind_verb}
 use Rattle.mf_lines.specs.LineTexts.{Alike}
 use Rattle.mf_lines.proofs.ServerLemmas.{has, none_of, any_passing, twice_passing, servers_are, reordered}
 use Rattle.mf_lines.proofs.LineWordLemmas.{bound, some_is, not_refused, numbers_are, file_is, IsSaid, operand_read}
-use Rattle.mf_lines.proofs.LineWordLemmas.{server_read}
+use Rattle.mf_lines.proofs.LineWordLemmas.{server_read, bare_read}
 
 -- ---- what follows
 
@@ -396,3 +396,12 @@ command_read so verb.Lose ws form knows e =
       new = tt;
       known = tt;
     }))
+command_read so verb.Sweep ws form knows e =
+    let b = bound (sweep_operand so ws >>= λ _. Ok act.Sweep) (λ act. Ok (says.Command act)) form e in
+    let a = bound (sweep_operand so ws) (λ _. Ok act.Sweep) b.value b.is in
+    let n = bound (no_words ws) _ a.value a.is in
+    let same : act.Sweep ≡ b.value = let n = a.next in cc in
+    let is : says.Command act.Sweep ≡ form = ap says.Command same ∙ let n = b.next in cc in
+    as_it_is so (word.Command verb.Sweep) ws form e
+    (bare_read (names_in so.script.files) (word.Command verb.Sweep) ws n.value (says.Command act.Sweep) form n.is is refl
+    refl tt tt)

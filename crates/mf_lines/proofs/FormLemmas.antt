@@ -1,6 +1,6 @@
 -- A line that has a form is that form's text, stands where it may, and names what it must.
 use Rattle.std.proofs.Common.{◌≡◌, ℕ, ◌≤◌, true, false, not, leb, List}
-use Rattle.std.proofs.Common.{[], ◌∷◌, length, Option, Some, None, Ok, refl, sym, ap, ◌∙◌, subst}
+use Rattle.std.proofs.Common.{[], ◌∷◌, Option, Some, None, Ok, refl, sym, ap, ◌∙◌, subst}
 use Rattle.std.proofs.Common.{inl, inr, ◌⊎◌}
 use Rattle.std.specs.Prelude.{codes, ok_or}
 use Rattle.std.specs.List.{join_with_byte}
@@ -19,7 +19,7 @@ use Rattle.mf_lines.specs.declared.forms.Form.{Form}
 use Rattle.mf_lines.specs.declared.forms.Form.TheVariants as says
 use Rattle.mf_lines.specs.Words.{refuse, word_text, word_of}
 use Rattle.mf_lines.specs.Words.{no_words, spelled}
-use Rattle.mf_lines.specs.Meaning.{SoFar, names_in, last_clients, first_word}
+use Rattle.mf_lines.specs.Meaning.{SoFar, names_in, first_word}
 use Rattle.mf_lines.specs.Lines.{within}
 use Rattle.mf_lines.specs.Lines.{form_in, may_follow, first_form}
 use Rattle.mf_lines.specs.Lines.{later_form, placed, form_at, knows_servers}
@@ -28,7 +28,9 @@ use Rattle.mf_lines.specs.Drafts.{IsNew}
 use Rattle.mf_lines.specs.LineTexts.{line_text}
 use Rattle.mf_lines.specs.LineTexts.{Alike}
 use Rattle.mf_lines.proofs.LineWordLemmas.{bound, some_is, not_refused, word_is, NewName, KnowsFile, bare_read}
-use Rattle.mf_lines.proofs.LineWordLemmas.{servers_read, chunk_read, points_read, stage_read, file_read, dump_read}
+use Rattle.mf_lines.proofs.LineWordLemmas.{servers_read, chunk_read, points_read, stage_read, policy_read, file_read}
+use Rattle.mf_lines.proofs.LineWordLemmas.{tick_read, dump_read}
+use Rattle.mf_lines.proofs.AgeLemmas.{IsTimely, is_timely}
 use Rattle.mf_lines.proofs.CommandLemmas.{then, AreFit, fit_words, clean_joined, words_alone, IsRead, as_it_is}
 use Rattle.mf_lines.proofs.CommandLemmas.{command_read}
 
@@ -57,15 +59,18 @@ form_read so last word.Points ws form was follows e =
     as_it_is so word.Points ws form e (points_read (names_in so.script.files) ws form e)
 form_read so last word.Stage ws form was follows e =
     as_it_is so word.Stage ws form e (stage_read (names_in so.script.files) ws form e)
+form_read so last word.Policy ws form was follows e = as_it_is so word.Policy ws form e (policy_read so ws form e)
+form_read so last word.Tick ws form was follows e =
+    as_it_is so word.Tick ws form e (tick_read (names_in so.script.files) ws form e)
 form_read so last word.File ws form was follows e = as_it_is so word.File ws form e (file_read so ws form e)
 form_read so last word.Phase ws form was follows e =
     let a = bound (no_words ws) _ form e in
-    let b = bound (within ((leb 64 (length so.script.items), limit.Phases) ∷ [])) (λ _. Ok says.Phase) form a.next in
+    let b = bound (within ((leb 64 so.phases, limit.Phases) ∷ [])) (λ _. Ok says.Phase) form a.next in
     as_it_is so word.Phase ws form e
     (bare_read (names_in so.script.files) word.Phase ws a.value says.Phase form a.is (let n =
     b.next in cc) refl refl tt tt)
 form_read so last word.Client ws form was follows e =
-    let a = bound (refuse (leb 1 (length (last_clients so.script.items))) kind.Unknown) _ form e in
+    let a = bound (refuse (leb 1 so.clients) kind.Unknown) _ form e in
     let b = bound (no_words ws) (λ _. Ok says.Client) form a.next in
     as_it_is so word.Client ws form e
     (bare_read (names_in so.script.files) word.Client ws b.value says.Client form b.is (let n =
@@ -79,14 +84,15 @@ form_read so last word.End ws form was follows e =
     (bare_read (names_in so.script.files) word.End ws a.value says.End form a.is (let n = a.next in cc) refl refl tt tt)
 
 -- What is known of a line that has a form: it is clean; it stands first, or behind a line that it may follow; its
--- file's name is new, or its command's file is there. Where the script has at most 128 servers, it is the form's text,
--- but for the order of a list of servers, and that text has the same form.
+-- file's name is new, or its command's file is there; a tick is small, and a sweep has a policy. Where the script has at
+-- most 128 servers, it is the form's text, but for the order of a list of servers, and that text has the same form.
 pub record LineIs (so : SoFar) (line : List ℕ) (form : Form) : Type 0 where
   pub clean : is_clean line ≡ true
   pub place : ((so.last ≡ None) × (form ≡ says.Morph))
       ⊎ ((last : LineWord) × (so.last ≡ Some last) × (may_follow last (first_word form) ≡ true))
   pub new : NewName (names_in so.script.files) form
   pub known : KnowsFile (names_in so.script.files) form
+  pub timely : IsTimely so form
   pub again : form_at so (line_text (names_in so.script.files) form) ≡ Ok form
   pub alike : so.script.servers ≤ 128 → Alike line (line_text (names_in so.script.files) form)
 
@@ -127,6 +133,7 @@ module _ (so : SoFar) (last : LineWord) (was : so.last ≡ Some last) where
         place = inr (last, was, ap (may_follow last) read.says.word ∙ follows);
         new = read.says.new;
         known = read.says.known;
+        timely = is_timely so a.value ws b.value b.is read.says.word;
         again = ap (form_at so) (sym text)
             ∙ again_later a.value read.printed b.value (ap word_of (sym spelling) ∙ found) read.again follows
             (subst (λ v. (is_word v ≡ true) × (is_clean v ≡ true)) spelling fit.0, read.fit fit.1);
@@ -150,6 +157,7 @@ first_is so line form clean was e =
             place = inl (was, refl);
             new = tt;
             known = tt;
+            timely = tt;
             again = ap (form_at so) (sym same)
                 ∙ cond-true _ _ _ clean ∙ ap (λ l. placed l so line) was ∙ cond-true _ _ _ holds;
             alike = λ few. inl same;

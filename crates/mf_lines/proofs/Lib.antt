@@ -3,4 +3,5 @@ pub mod ServerLemmas
 pub mod ActLemmas
 pub mod LineWordLemmas
 pub mod CommandLemmas
+pub mod AgeLemmas
 pub mod FormLemmas

@@ -27,8 +27,9 @@ use Rattle.mf_lines.specs.declared.forms.Form.TheVariants as says
 use Rattle.mf_lines.specs.Words.{◌>>=◌, refuse, word_text, line_words, word_of, content_text}
 use Rattle.mf_lines.specs.Words.{content_words, content_word_of, no_words, one_word, two_words, three_words, spelled}
 use Rattle.mf_lines.specs.Words.{small, number_in}
-use Rattle.mf_lines.specs.Meaning.{SoFar, names_in, file_in, first_word}
+use Rattle.mf_lines.specs.Meaning.{SoFar, names_in, main_of, file_in, first_word}
 use Rattle.mf_lines.specs.Lines.{within, servers_form, chunk_form, is_above, numbers_in, points_in, points_form}
+use Rattle.mf_lines.specs.Lines.{are_thresholds, policy_form, tick_form}
 use Rattle.mf_lines.specs.Lines.{stage_form, has_name, file_number, text_in, hex_in, pattern_in, content_in}
 use Rattle.mf_lines.specs.Lines.{file_limits, file_form, file_operand, dump_form}
 use Rattle.mf_lines.specs.Lines.{command_fits, lacks_server, server_operand}
@@ -260,6 +261,38 @@ stage_read names ws form e =
     subst (IsSaid names word.Stage ws) is (record {
       word = refl;
       text = ap (λ x. join_with_byte 32 (codes "stage" ∷ x)) words;
+      new = tt;
+      known = tt;
+    })
+
+pub policy_read : (so : SoFar) (ws : List (List ℕ)) (form : Form) → policy_form so ws ≡ Ok form
+    → IsSaid (names_in so.script.files) word.Policy ws form
+policy_read so ws form e =
+    let many : ℕ = length (main_of so.script).stages in
+    let some = bound (refuse (eqb many 0) kind.Arity) _ form e in
+    let same = bound (refuse (not (eqb (length ws) many)) kind.Arity) _ form some.next in
+    let a = bound (numbers_in ws) _ form same.next in
+    let b = bound (within ((list_any (is_above 1000000000) a.value, limit.Tick) ∷ [])) _ form a.next in
+    let c = bound (refuse (not (are_thresholds a.value)) kind.Order) (λ _. Ok (says.Policy a.value)) form b.next in
+    let is : says.Policy a.value ≡ form = let n = c.next in cc in
+    subst (IsSaid (names_in so.script.files) word.Policy ws) is (record {
+      word = refl;
+      text = ap (λ x. join_with_byte 32 (codes "policy" ∷ x)) (numbers_are ws a.value a.is);
+      new = tt;
+      known = tt;
+    })
+
+pub tick_read : (names : List (List ℕ)) (ws : List (List ℕ)) (form : Form) → tick_form ws ≡ Ok form
+    → IsSaid names word.Tick ws form
+tick_read names ws form e =
+    let a = bound (one_word ws) _ form e in
+    let b = bound (spelled a.value) _ form a.next in
+    let c = bound (within ((ltb 1000000000 b.value, limit.Tick) ∷ [])) (λ _. Ok (says.Tick b.value)) form b.next in
+    let is : says.Tick b.value ≡ form = let n = c.next in cc in
+    let words = one_is ws a.value a.is ∙ ap (λ w. w ∷ []) (spelled_is a.value b.value b.is) in
+    subst (IsSaid names word.Tick ws) is (record {
+      word = refl;
+      text = ap (λ x. join_with_byte 32 (codes "tick" ∷ x)) words;
       new = tt;
       known = tt;
     })

@@ -2,8 +2,8 @@
 use Rattle.std.proofs.Common.{◌≡◌, ℕ, zero, suc, ◌+◌, ◌-◌, ◌<◌, ◌≤◌, Bool, true, false, ◌||◌, not, cond, eqb, ltb}
 use Rattle.std.proofs.Common.{leb, List, [], ◌∷◌, ◌++◌, length, take, drop, map, get_or, Option, Some, None, Result}
 use Rattle.std.proofs.Common.{Ok, Err, Bor, refl, sym, ap, ◌∙◌, inl, inr, arith}
-use Rattle.std.specs.List.{list_any, find, flat_map, position, position_or_len, join_with_byte, slice_get}
-use Rattle.std.proofs.lemmas.Bool.{cases_Bool, cond-true, cond-false, eqb-true, le-leb, or_parts, ltb-false}
+use Rattle.std.specs.List.{list_any, find, flat_map, position, position_or_len, join_with_byte}
+use Rattle.std.proofs.lemmas.Bool.{cond-true, cond-false, eq-eqb, ne_eqb, or_parts, ltb-false}
 use Rattle.std.specs.Prelude.{codes, option_to_list, is_some, OnOk}
 use Rattle.std.specs.Str.{bytes_eq}
 use Rattle.std.proofs.lemmas.List.{append_assoc, append-nil, nil_from_length, length-map, take_rest}
@@ -13,10 +13,7 @@ use Rattle.mf_text.proofs.WordLemmas.{join-words_of, words_of-some}
 use Rattle.mf_lines.specs.declared.parts.Content.TheVariants as given
 use Rattle.mf_lines.specs.declared.parts.Kind.{Kind}
 use Rattle.mf_lines.specs.declared.parts.Kind.TheVariants as kind
-use Rattle.mf_lines.specs.declared.parts.Client.{Client}
-use Rattle.mf_lines.specs.declared.parts.Item.{Item}
-use Rattle.mf_lines.specs.declared.parts.Item.TheVariants as item
-use Rattle.mf_lines.specs.Meaning.{on_last, last_clients}
+use Rattle.mf_lines.specs.Meaning.{on_last}
 use Rattle.mf_lines.specs.LineTexts.{spaced}
 use Rattle.mf_lines.specs.Words.{◌>>=◌, behind, no_words, spelled}
 use Rattle.mf_lines.specs.Lines.{is_above, numbers_in, points_in, points_form, text_in, away_words}
@@ -73,28 +70,6 @@ on_last-push change (y ∷ z ∷ xs) x = ap (λ r. y ∷ r) (on_last-push change
 pub left_out : {X : Type 0} (change : X → X) (old rest : List X) (r : Option X) → old ≡ rest ++ option_to_list r
     → r ≡ None → rest ≡ [] → rest ≡ on_last change old
 left_out change old rest r was is none = none ∙ ap (on_last change) (sym (was ∙ (λ i. none i ++ option_to_list (is i))))
-
-pub last_clients-is : (items : List Item) (n : ℕ) (clients : List Client) → n + 1 ≡ length items
-    → slice_get items n ≡ Some (item.Phase clients) → last_clients items ≡ clients
-last_clients-is [] n clients long e = absurd (omega arith)
-last_clients-is (item.Phase others ∷ []) zero clients long e =
-    let same : item.Phase others ≡ item.Phase clients = cc in ap last_clients (ap (λ x. x ∷ []) same)
-last_clients-is (x ∷ []) (suc n) clients long e = absurd (omega arith)
-last_clients-is (x ∷ y ∷ items) zero clients long e = absurd (omega arith)
-last_clients-is (x ∷ y ∷ items) (suc n) clients long e = last_clients-is (y ∷ items) n clients (omega arith) e
-
-pub some_length : {X : Type 0} (xs : List X) (n : ℕ) (x : X) → slice_get xs n ≡ Some x → n < length xs
-some_length [] n x e = absurd cc
-some_length (y ∷ xs) zero x e = omega arith
-some_length (y ∷ xs) (suc n) x e = omega (arith, some_length xs n x e)
-
-pub some_clients : (clients : List Client) (b : Bool) → b ≡ eqb (length clients) 0 → not b ≡ leb 1 (length clients)
-some_clients [] b e = ap not e
-some_clients (c ∷ clients) b e =
-    elim (cases_Bool (eqb (length (c ∷ clients)) 0)) [
-      | inl holds ↦ let none = eqb-true (length (c ∷ clients)) 0 holds in absurd (omega arith)
-      | inr fails ↦ ap not (e ∙ fails) ∙ sym (le-leb 1 (length (c ∷ clients)) (omega arith))
-    ]
 
 -- the last element is taken away and put back changed
 pub put_back : {X : Type 0} (change : X → X) (old rest new : List X) (r : Option X) (x : X)
@@ -176,6 +151,16 @@ numbers_start words = go (numbers_in words)
 pub behind_some : (rest : Option (Bor (List ℕ))) → is_some rest ≡ true → behind rest ≡ [] → ⊥
 behind_some None some e = absurd cc
 behind_some (Some line) some e = let words = words_of-some line.now in let no = sym words.2 ∙ e in absurd cc
+
+-- whether no word is left behind the first so many
+pub are_so_many : (rest : Option (Bor (List ℕ))) (b : Bool) (all many : ℕ) → is_some rest ≡ not b
+    → all ≡ many + length (behind rest) → b ≡ eqb all many
+are_so_many None true all many some e = sym (eq-eqb all many (omega (arith, e)))
+are_so_many None false all many some e = absurd cc
+are_so_many (Some line) true all many some e = absurd cc
+are_so_many (Some line) false all many some e =
+    let words = words_of-some line.now in
+    sym (ne_eqb all many (λ same. omega (arith, e, same, ap length words.2)))
 
 pub points_are : (words : List (List ℕ)) (ns : List ℕ) → (words ≡ [] → ⊥) → numbers_in words ≡ Ok ns
     → points_in ns ≡ points_form words

@@ -18,6 +18,7 @@ script_in draft =
       servers = draft.servers;
       chunk = draft.chunk;
       families = record { name = codes "main"; points = draft.points; stages = draft.stages.items } ∷ [];
+      policy = draft.policy;
       files = draft.files.items;
       file_families = draft.file_families.items;
       items = draft.items.items;
@@ -31,15 +32,20 @@ so_in draft =
       lines = draft.lines;
       last = draft.last;
       stage_line = draft.stage_line;
+      phases = draft.phases;
+      clients = draft.clients;
       commands = draft.commands;
       script = script_in draft;
     }
 
--- what a draft keeps: the names that it looks up are those of its files, there are not more files and commands than
--- lines, and there is room for these
+-- what a draft keeps: the names that it looks up are those of its files, there are not more stages, files, phases,
+-- clients and commands than lines, and there is room for these
 pub record IsDraft (draft : Draft) : Type 0 where
   pub names : names_of draft.names.keys ≡ names_in draft.files.items
+  pub stages : length draft.stages.items ≤ draft.lines
   pub files : length draft.files.items ≤ draft.lines
+  pub phases : draft.phases ≤ draft.lines
+  pub clients : draft.clients ≤ draft.lines
   pub commands : draft.commands ≤ draft.lines
   pub lines : draft.lines ≤ 2 ^ 31
 

@@ -51,6 +51,7 @@ behind_verb names (act.Convert file away stop) = name_at names file ∷ listed (
 behind_verb names (act.Reclaim file) = name_at names file ∷ []
 behind_verb names (act.Remove file) = name_at names file ∷ []
 behind_verb names (act.Lose server) = decimal_text server ∷ []
+behind_verb names act.Sweep = []
 
 -- what stands behind a line's first word
 abbrev pub behind_word : List (List ℕ) → Form → List (List ℕ)
@@ -60,7 +61,9 @@ behind_word names (says.Chunk n) = decimal_text n ∷ []
 behind_word names (says.Points points) = map decimal_text points
 behind_word names (says.Stage stage) =
     decimal_text stage.width ∷ decimal_text stage.parities ∷ decimal_text stage.copies ∷ []
+behind_word names (says.Policy thresholds) = map decimal_text thresholds
 behind_word names (says.File file) = file.name ∷ content_text (content_word file.content) ∷ behind_content file.content
+behind_word names (says.Tick ticks) = decimal_text ticks ∷ []
 behind_word names (says.Command act) = behind_verb names act
 behind_word names (says.Dump file) = name_at names file ∷ []
 behind_word names form = []

@@ -1,7 +1,7 @@
 -- What a line says behind those before it, or the kind of its fault. In each line the kinds are tried in their order:
 -- text, header, unknown, arity, number, limit, twice, nofile, noserver, order; and limits in the order of their names.
 use Rattle.std.specs.Prelude.{◌≡◌, ◌≢◌, ℕ, ◌==◌, ◌&&◌, ◌||◌, not, nat_lt, nat_le, Bool, true, false, if◌then◌else◌}
-use Rattle.std.specs.Prelude.{List, [], ◌∷◌}
+use Rattle.std.specs.Prelude.{List, [], ◌∷◌, is_some}
 use Rattle.std.specs.Prelude.{length, Option, Some, None, Result, Ok, Err, codes, ok_or, position, Vec}
 use Rattle.std.specs.Global.{Global}
 use Rattle.std.specs.Int.{div_ceil}
@@ -31,7 +31,7 @@ use Rattle.mf_lines.specs.declared.forms.Form.TheVariants as says
 use Rattle.mf_lines.specs.Names.{is_name}
 use Rattle.mf_lines.specs.Words.{◌>>=◌, refuse, word_of, content_word_of, no_words, one_word, two_words, three_words}
 use Rattle.mf_lines.specs.Words.{spelled, small, number_in}
-use Rattle.mf_lines.specs.Meaning.{SoFar, names_in, last_clients}
+use Rattle.mf_lines.specs.Meaning.{SoFar, names_in, main_of}
 
 -- it was read so, or memory ran out
 abbrev pub Says : {A : Type 0} → Result A Kind → Result A Kind → Type 0
@@ -103,6 +103,26 @@ stage_form words = do
   parities ← small parities
   copies ← small copies
   Ok (says.Stage (record { width = width; parities = parities; copies = copies }))
+
+-- each is above the one before it, and the first above this
+abbrev pub rises_behind : ℕ → List ℕ → Bool
+rises_behind last [] = true
+rises_behind last (n ∷ numbers) = nat_lt last n && rises_behind n numbers
+
+-- they begin with 0, and each is above the one before it
+abbrev pub are_thresholds : List ℕ → Bool
+are_thresholds [] = false
+are_thresholds (n ∷ numbers) = n == 0 && rises_behind n numbers
+
+-- `policy T ..`, with a threshold for each stage
+abbrev pub policy_form : SoFar → List (List ℕ) → Result Form Kind
+policy_form so words = do
+  _ ← refuse (length (main_of so.script).stages == 0) kind.Arity
+  _ ← refuse (not (length words == length (main_of so.script).stages)) kind.Arity
+  thresholds ← numbers_in words
+  _ ← within ((list_any (is_above 1000000000) thresholds, limit.Tick) ∷ [])
+  _ ← refuse (not (are_thresholds thresholds)) kind.Order
+  Ok (says.Policy thresholds)
 
 -- ---- file lines
 
@@ -176,19 +196,27 @@ file_form so (name ∷ word ∷ words) = do
   Ok (says.File (record { name = name; content = given }))
 file_form so words = Err kind.Arity
 
--- ---- phases, clients and commands
+-- ---- ticks, phases, clients and commands
+
+-- `tick N`
+abbrev pub tick_form : List (List ℕ) → Result Form Kind
+tick_form words = do
+  word ← one_word words
+  ticks ← spelled word
+  _ ← within ((nat_lt 1000000000 ticks, limit.Tick) ∷ [])
+  Ok (says.Tick ticks)
 
 -- `phase`
 abbrev pub phase_form : SoFar → List (List ℕ) → Result Form Kind
 phase_form so words = do
   _ ← no_words words
-  _ ← within ((nat_le 64 (length so.script.items), limit.Phases) ∷ [])
+  _ ← within ((nat_le 64 so.phases, limit.Phases) ∷ [])
   Ok says.Phase
 
 -- `client`; a phase has one
 abbrev pub client_form : SoFar → List (List ℕ) → Result Form Kind
 client_form so words = do
-  _ ← refuse (nat_le 1 (length (last_clients so.script.items))) kind.Unknown
+  _ ← refuse (nat_le 1 so.clients) kind.Unknown
   _ ← no_words words
   Ok says.Client
 
@@ -254,6 +282,13 @@ away_operands so words = do
   _ ← refuse (list_any (lacks_server so) servers) kind.NoServer
   Ok (file, set_of servers)
 
+-- a command without an operand, which needs a policy
+abbrev pub sweep_operand : SoFar → List (List ℕ) → Result (Unit {0}) Kind
+sweep_operand so words = do
+  _ ← no_words words
+  _ ← command_fits so
+  refuse (not (is_some so.script.policy)) kind.Order
+
 -- what a command does: its word, and its operands
 abbrev pub act_in : SoFar → Verb → List (List ℕ) → Result Act Kind
 act_in so verb.Create words = file_operand so words >>= λ file. Ok (act.Create file)
@@ -265,6 +300,7 @@ act_in so verb.Convert words = away_operands so words >>= λ two. Ok (act.Conver
 act_in so verb.Reclaim words = file_operand so words >>= λ file. Ok (act.Reclaim file)
 act_in so verb.Remove words = file_operand so words >>= λ file. Ok (act.Remove file)
 act_in so verb.Lose words = server_operand so words >>= λ server. Ok (act.Lose server)
+act_in so verb.Sweep words = sweep_operand so words >>= λ _. Ok act.Sweep
 
 -- ---- dumps
 
@@ -285,7 +321,9 @@ form_in so word.Servers words = servers_form words
 form_in so word.Chunk words = chunk_form words
 form_in so word.Points words = points_form words
 form_in so word.Stage words = stage_form words
+form_in so word.Policy words = policy_form so words
 form_in so word.File words = file_form so words
+form_in so word.Tick words = tick_form words
 form_in so word.Phase words = phase_form so words
 form_in so word.Client words = client_form so words
 form_in so (word.Command verb) words = act_in so verb words >>= λ act. Ok (says.Command act)
@@ -297,6 +335,7 @@ abbrev pub may_follow_command : LineWord → Bool
 may_follow_command (word.Command verb) = true
 may_follow_command word.Client = true
 may_follow_command word.Phase = true
+may_follow_command word.Tick = true
 may_follow_command word.Dump = true
 may_follow_command word.End = true
 may_follow_command next = false
@@ -308,11 +347,18 @@ may_follow word.Servers word.Chunk = true
 may_follow word.Chunk word.Points = true
 may_follow word.Points word.Stage = true
 may_follow word.Stage word.Stage = true
+may_follow word.Stage word.Policy = true
 may_follow word.Stage word.File = true
+may_follow word.Policy word.File = true
 may_follow word.File word.File = true
+may_follow word.File word.Tick = true
 may_follow word.File word.Phase = true
 may_follow word.File word.Dump = true
 may_follow word.File word.End = true
+may_follow word.Tick word.Tick = true
+may_follow word.Tick word.Phase = true
+may_follow word.Tick word.Dump = true
+may_follow word.Tick word.End = true
 may_follow word.Phase word.Client = true
 may_follow word.Client next = may_follow_command next
 may_follow (word.Command verb) next = may_follow_command next

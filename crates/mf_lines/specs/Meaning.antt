@@ -29,6 +29,7 @@ verb_of (act.Convert file away stop) = verb.Convert
 verb_of (act.Reclaim file) = verb.Reclaim
 verb_of (act.Remove file) = verb.Remove
 verb_of (act.Lose server) = verb.Lose
+verb_of act.Sweep = verb.Sweep
 
 -- the file that it is on, if it is on one
 abbrev pub file_in : Act → Option ℕ
@@ -41,6 +42,7 @@ file_in (act.Convert file away stop) = Some file
 file_in (act.Reclaim file) = Some file
 file_in (act.Remove file) = Some file
 file_in (act.Lose server) = None
+file_in act.Sweep = None
 
 -- the word that a line of this form begins with
 abbrev pub first_word : Form → LineWord
@@ -49,7 +51,9 @@ first_word (says.Servers n) = word.Servers
 first_word (says.Chunk n) = word.Chunk
 first_word (says.Points points) = word.Points
 first_word (says.Stage stage) = word.Stage
+first_word (says.Policy thresholds) = word.Policy
 first_word (says.File file) = word.File
+first_word (says.Tick ticks) = word.Tick
 first_word says.Phase = word.Phase
 first_word says.Client = word.Client
 first_word (says.Command act) = word.Command (verb_of act)
@@ -64,12 +68,13 @@ pub record Block : Type 0 where
   pub points : List ℕ
   pub stages : List Stage
 
--- What a script says: its servers and chunk size, its families, its files, for each file the number of its family,
--- what stands behind the files, and the files of its dump lines.
+-- What a script says: its servers and chunk size, its families, the thresholds of its policy, its files, for each file
+-- the number of its family, what stands behind the files, and the files of its dump lines.
 pub record Script : Type 0 where
   pub servers : ℕ
   pub chunk : ℕ
   pub families : List Block
+  pub policy : Option (List ℕ)
   pub files : List FileLine
   pub file_families : List ℕ
   pub items : List Item
@@ -86,6 +91,7 @@ no_script =
       servers = 0;
       chunk = 0;
       families = no_block ∷ [];
+      policy = None;
       files = [];
       file_families = [];
       items = [];
@@ -106,8 +112,9 @@ with_points points block = record block { points = points }
 abbrev pub with_stage : Stage → Block → Block
 with_stage stage block = record block { stages = block.stages ++ stage ∷ [] }
 
--- a phase with one client more
+-- a phase with one client more; ticks have no clients
 abbrev pub with_client : Item → Item
+with_client (item.Tick ticks) = item.Tick ticks
 with_client (item.Phase clients) = item.Phase (clients ++ record { commands = [] } ∷ [])
 
 -- a client with one command more
@@ -116,6 +123,7 @@ client_with command client = record { commands = client.commands ++ command ∷ 
 
 -- a phase whose last client has one command more
 abbrev pub with_command : Command → Item → Item
+with_command command (item.Tick ticks) = item.Tick ticks
 with_command command (item.Phase clients) = item.Phase (on_last (client_with command) clients)
 
 -- with line n, which is of this form
@@ -124,7 +132,9 @@ with_form s n (says.Servers count) = record s { servers = count }
 with_form s n (says.Chunk size) = record s { chunk = size }
 with_form s n (says.Points points) = record s { families = on_last (with_points points) s.families }
 with_form s n (says.Stage stage) = record s { families = on_last (with_stage stage) s.families }
+with_form s n (says.Policy thresholds) = record s { policy = Some thresholds }
 with_form s n (says.File file) = record s { files = s.files ++ file ∷ []; file_families = s.file_families ++ 0 ∷ [] }
+with_form s n (says.Tick ticks) = record s { items = s.items ++ item.Tick ticks ∷ [] }
 with_form s n says.Phase = record s { items = s.items ++ item.Phase [] ∷ [] }
 with_form s n says.Client = record s { items = on_last with_client s.items }
 with_form s n (says.Command act) = record s { items = on_last (with_command (record { line = n; act = act })) s.items }
@@ -139,32 +149,53 @@ main_of s = slice_index_or s.families 0 no_block
 abbrev pub names_in : List FileLine → List (List ℕ)
 names_in files = map (λ file. file.name) files
 
--- the clients of the last phase
-abbrev pub last_clients : List Item → List Client
-last_clients [] = []
-last_clients (item.Phase clients ∷ []) = clients
-last_clients (x ∷ y ∷ items) = last_clients (y ∷ items)
+-- ---- ticks and phases
+
+-- the clients of a phase; ticks have none
+abbrev pub clients_in : Item → List Client
+clients_in (item.Tick ticks) = []
+clients_in (item.Phase clients) = clients
+
+-- the phases among these items, each with its clients
+abbrev pub phases_in : List Item → List (List Client)
+phases_in [] = []
+phases_in (item.Tick ticks ∷ items) = phases_in items
+phases_in (item.Phase clients ∷ items) = clients ∷ phases_in items
 
 -- ---- the lines so far
 
 -- What the lines so far add up to: how many they are, the word of the last one, the number of the first stage's line or
--- 0, the number of commands, and what they say.
+-- 0, how many phases and commands they have, how many clients since the last phase line, and what they say.
 pub record SoFar : Type 0 where
   pub lines : ℕ
   pub last : Option LineWord
   pub stage_line : ℕ
+  pub phases : ℕ
+  pub clients : ℕ
   pub commands : ℕ
   pub script : Script
 
 -- before the first line
 abbrev pub so_before : SoFar
-so_before = record { lines = 0; last = None; stage_line = 0; commands = 0; script = no_script }
+so_before =
+    record { lines = 0; last = None; stage_line = 0; phases = 0; clients = 0; commands = 0; script = no_script }
 
 -- the line of the first stage, with one more line
 abbrev pub stage_line_with : SoFar → Form → ℕ
 stage_line_with so (says.Stage stage) =
     if length (main_of so.script).stages == 0 then so.lines + 1 else so.stage_line
 stage_line_with so form = so.stage_line
+
+-- the number of phases, with one more line
+abbrev pub phases_with : SoFar → Form → ℕ
+phases_with so says.Phase = so.phases + 1
+phases_with so form = so.phases
+
+-- the number of clients since the last phase line, with one more line
+abbrev pub clients_with : SoFar → Form → ℕ
+clients_with so says.Phase = 0
+clients_with so says.Client = so.clients + 1
+clients_with so form = so.clients
 
 -- the number of commands, with one more line
 abbrev pub commands_with : SoFar → Form → ℕ
@@ -178,6 +209,8 @@ with_line so form =
       lines = so.lines + 1;
       last = Some (first_word form);
       stage_line = stage_line_with so form;
+      phases = phases_with so form;
+      clients = clients_with so form;
       commands = commands_with so form;
       script = with_form so.script (so.lines + 1) form;
     }

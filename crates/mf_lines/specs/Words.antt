@@ -29,6 +29,7 @@ verb_text verb.Convert = codes "convert"
 verb_text verb.Reclaim = codes "reclaim"
 verb_text verb.Remove = codes "remove"
 verb_text verb.Lose = codes "lose"
+verb_text verb.Sweep = codes "sweep"
 
 -- how a line word is spelled
 abbrev pub word_text : LineWord → List ℕ
@@ -37,7 +38,9 @@ word_text word.Servers = codes "servers"
 word_text word.Chunk = codes "chunk"
 word_text word.Points = codes "points"
 word_text word.Stage = codes "stage"
+word_text word.Policy = codes "policy"
 word_text word.File = codes "file"
+word_text word.Tick = codes "tick"
 word_text word.Phase = codes "phase"
 word_text word.Client = codes "client"
 word_text (word.Command verb) = verb_text verb
@@ -47,10 +50,10 @@ word_text word.End = codes "end"
 -- all line words
 abbrev pub line_words : List LineWord
 line_words =
-    word.Morph ∷ word.Servers ∷ word.Chunk ∷ word.Points ∷ word.Stage ∷ word.File ∷ word.Phase ∷ word.Client
-    ∷ word.Command verb.Create ∷ word.Command verb.Read ∷ word.Command verb.Hold ∷ word.Command verb.Release
-    ∷ word.Command verb.Repair ∷ word.Command verb.Convert ∷ word.Command verb.Reclaim ∷ word.Command verb.Remove
-    ∷ word.Command verb.Lose ∷ word.Dump ∷ word.End ∷ []
+    word.Morph ∷ word.Servers ∷ word.Chunk ∷ word.Points ∷ word.Stage ∷ word.Policy ∷ word.File ∷ word.Tick
+    ∷ word.Phase ∷ word.Client ∷ word.Command verb.Create ∷ word.Command verb.Read ∷ word.Command verb.Hold
+    ∷ word.Command verb.Release ∷ word.Command verb.Repair ∷ word.Command verb.Convert ∷ word.Command verb.Reclaim
+    ∷ word.Command verb.Remove ∷ word.Command verb.Lose ∷ word.Command verb.Sweep ∷ word.Dump ∷ word.End ∷ []
 
 -- the line word that these bytes spell
 unfoldable pub word_of : List ℕ → Option LineWord

@@ -1,11 +1,11 @@
 //! What the lines so far add up to.
 
-ghost use Rattle.std.specs.Prelude.{◌≡◌, ◌<◌, ◌≤◌, ◌^◌, ◌+◌, ◌∷◌, ◌++◌, [], OnOk, length, nat_le};
+ghost use Rattle.std.specs.Prelude.{◌≡◌, ◌<◌, ◌≤◌, ◌^◌, ◌+◌, ◌∷◌, ◌++◌, [], OnOk, length};
 ghost use Rattle.std.specs.Prelude.{◌≢◌, ◌==◌, if◌then◌else◌, IfOk, IfErr, Err};
 ghost use Rattle.std.specs.List.{list_any};
 ghost use Rattle.mf_lines.specs.Meaning.{on_last, with_client, client_with, with_command};
 ghost use Rattle.mf_lines.specs.Meaning.{with_line, so_before};
-ghost use Rattle.mf_lines.specs.Meaning.{names_in, last_clients};
+ghost use Rattle.mf_lines.specs.Meaning.{names_in};
 ghost use Rattle.mf_lines.specs.Lines.{has_name, file_number, form_at};
 ghost use Rattle.mf_lines.specs.Drafts.{so_in, IsDraft, IsNew, Adds};
 
@@ -13,6 +13,7 @@ use crate::forms::{Form, read_line};
 use crate::parts::{Bytes, Client, Clients, Command, Commands, FileLine, Item, Kind};
 use crate::words::LineWord;
 use indexmap::IndexSet;
+use mf_policy::Policy;
 use mf_shape::Stage;
 use std::alloc::{AllocError, Global};
 
@@ -21,18 +22,22 @@ const FIRST_FAMILY: u32 = 0;
 
 /// What the lines so far add up to: how many they are, the word of the last one, and what they say
 /// of the script. Numbers of which no line has told are 0, and so is `stage_line`, the number of
-/// the first stage's line, before it. `names` has the names of the files, and `file_families` the
-/// number of each file's family; `dumps` has the numbers of the files of the dump lines.
+/// the first stage's line, before it. `clients` is the number of clients since the last phase line.
+/// `names` has the names of the files, and `file_families` the number of each file's family;
+/// `dumps` has the numbers of the files of the dump lines.
 #[derive(Drop)]
 pub struct Draft {
     pub lines: u32,
     pub last: Option<LineWord>,
     pub stage_line: u32,
+    pub phases: u32,
+    pub clients: u32,
     pub commands: u32,
     pub servers: u32,
     pub chunk: u32,
     pub points: Bytes,
     pub stages: Vec<Stage>,
+    pub policy: Option<Policy>,
     pub names: IndexSet<Vec<u8>>,
     pub files: Vec<FileLine>,
     pub file_families: Vec<u32>,
@@ -40,21 +45,33 @@ pub struct Draft {
     pub dumps: Vec<u32>,
 }
 
-// Adds a client to the last phase, if there is one.
+// The phase with one client more; ticks stay as they are.
+fn with_client(alloc: Global, item: Item) -> Result<Item, AllocError>
+    ensures { IfOk result (λ new. new ≡ with_client item) }
+{
+    match item {
+        Item::Tick(ticks) => Ok(Item::Tick(ticks)),
+        Item::Phase(clients) => {
+            let mut clients = clients;
+            let commands = Commands::new(Vec::new(alloc));
+            clients.push(Client { commands })?;
+            Ok(Item::Phase(clients))
+        }
+    }
+}
+
+// Adds a client to the last item, if that is a phase.
 fn add_client(alloc: Global, items: &mut Vec<Item>) -> Result<(), AllocError>
     ensures { OnOk result (items.new.items ≡ on_last with_client items.old.items) }
 {
     if let Some(item) = items.pop() {
-        let mut clients = item.into_clients();
-        let commands = Commands::new(Vec::new(alloc));
-        clients.push(Client { commands })?;
-        items.push(Item::Phase(clients))?;
+        items.push(with_client(alloc, item)?)?;
     }
     Ok(())
 }
 
 // The clients, of which the last, if there is one, has one command more.
-fn with_command(clients: Clients, command: Command) -> Result<Clients, AllocError>
+fn clients_with(clients: Clients, command: Command) -> Result<Clients, AllocError>
     ensures { IfOk result (λ new. new ≡ on_last (client_with command) clients) }
 {
     let mut clients = clients;
@@ -66,13 +83,22 @@ fn with_command(clients: Clients, command: Command) -> Result<Clients, AllocErro
     Ok(clients)
 }
 
-// Adds a command to the last client of the last phase, if there is one.
+// The phase whose last client has one command more; ticks stay as they are.
+fn with_command(item: Item, command: Command) -> Result<Item, AllocError>
+    ensures { IfOk result (λ new. new ≡ with_command command item) }
+{
+    match item {
+        Item::Tick(ticks) => Ok(Item::Tick(ticks)),
+        Item::Phase(clients) => Ok(Item::Phase(clients_with(clients, command)?)),
+    }
+}
+
+// Adds a command to the last client of the last item, if that is a phase.
 fn add_command(items: &mut Vec<Item>, command: Command) -> Result<(), AllocError>
     ensures { OnOk result (items.new.items ≡ on_last (with_command command) items.old.items) }
 {
     if let Some(item) = items.pop() {
-        let clients = with_command(item.into_clients(), command)?;
-        items.push(Item::Phase(clients))?;
+        items.push(with_command(item, command)?)?;
     }
     Ok(())
 }
@@ -94,11 +120,14 @@ impl Draft {
             lines: 0,
             last: None,
             stage_line: 0,
+            phases: 0,
+            clients: 0,
             commands: 0,
             servers: 0,
             chunk: 0,
             points: Bytes::new(Vec::new(alloc)),
             stages: Vec::new(alloc),
+            policy: None,
             names: IndexSet::new(alloc),
             files: Vec::new(alloc),
             file_families: Vec::new(alloc),
@@ -123,16 +152,6 @@ impl Draft {
         match self.names.get_index_of(name) {
             Some(file) => Some(file as u32),
             None => None,
-        }
-    }
-
-    /// Whether the last phase has a client.
-    pub fn has_client(&self) -> bool
-        ensures { result ≡ nat_le 1 (length (last_clients self.now.items.items)) }
-    {
-        match self.items.last() {
-            Some(item) => !item.clients().is_empty(),
-            None => false,
         }
     }
 
@@ -162,14 +181,23 @@ impl Draft {
                 self.stage_line = stage_line(&self.stages, self.stage_line, self.lines);
                 self.stages.push(stage)?;
             }
+            Form::Policy(policy) => self.policy = Some(policy),
             Form::File(file) => {
                 let name = Vec::from_slice(alloc, file.name.as_slice())?;
                 self.names.insert(name)?;
                 self.files.push(file)?;
                 self.file_families.push(FIRST_FAMILY)?;
             }
-            Form::Phase => self.items.push(Item::Phase(Clients::new(Vec::new(alloc))))?,
-            Form::Client => add_client(alloc, &mut self.items)?,
+            Form::Tick(ticks) => self.items.push(Item::Tick(ticks))?,
+            Form::Phase => {
+                self.phases += 1;
+                self.clients = 0;
+                self.items.push(Item::Phase(Clients::new(Vec::new(alloc))))?;
+            }
+            Form::Client => {
+                self.clients += 1;
+                add_client(alloc, &mut self.items)?;
+            }
             Form::Command(act) => {
                 self.commands += 1;
                 let line = self.lines;

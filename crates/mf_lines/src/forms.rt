@@ -7,7 +7,7 @@ ghost use Rattle.mf_lines.specs.Words.{behind};
 ghost use Rattle.mf_lines.specs.Meaning.{verb_of, file_in, first_word};
 ghost use Rattle.mf_lines.specs.Lines.{Says, SaysList, within, is_above, numbers_in, may_follow};
 ghost use Rattle.mf_lines.specs.Lines.{servers_form, chunk_form, points_in, points_form};
-ghost use Rattle.mf_lines.specs.Lines.{stage_form};
+ghost use Rattle.mf_lines.specs.Lines.{stage_form, sweep_operand};
 ghost use Rattle.mf_lines.specs.Lines.{phase_form, client_form, file_operand, act_in, dump_form};
 ghost use Rattle.mf_lines.specs.Lines.{form_in};
 ghost use Rattle.mf_lines.specs.Lines.{command_fits, knows_servers, lacks_server, server_operand};
@@ -15,6 +15,7 @@ ghost use Rattle.mf_lines.specs.Lines.{has_twice, away_words, servers_in, away_o
 ghost use Rattle.mf_lines.specs.Lines.{first_form, form_at};
 ghost use Rattle.mf_lines.specs.Drafts.{so_in, IsDraft};
 
+use crate::ages::{policy_line, tick_line};
 use crate::draft::Draft;
 use crate::files::file_line;
 use crate::parts::{Act, Bytes, FileLine, Kind, LimitName};
@@ -24,6 +25,7 @@ use crate::words::{
 };
 use indexmap::IndexSet;
 use mf_places::Servers;
+use mf_policy::Policy;
 use mf_shape::Stage;
 use std::alloc::{AllocError, Global};
 
@@ -35,7 +37,7 @@ const MAX_POINT: u64 = 255;
 
 const MAX_NUMBER: u64 = 4_294_967_295;
 
-const MAX_PHASES: usize = 64;
+const MAX_PHASES: u32 = 64;
 
 const MAX_COMMANDS: u32 = 1_024;
 
@@ -47,7 +49,9 @@ pub enum Form {
     Chunk(u32),
     Points(Bytes),
     Stage(Stage),
+    Policy(Policy),
     File(FileLine),
+    Tick(u64),
     Phase,
     Client,
     Command(Act),
@@ -70,6 +74,7 @@ impl Act {
             Act::Reclaim(_) => Verb::Reclaim,
             Act::Remove(_) => Verb::Remove,
             Act::Lose(_) => Verb::Lose,
+            Act::Sweep => Verb::Sweep,
         }
     }
 
@@ -86,7 +91,7 @@ impl Act {
             | Act::Convert { file, .. }
             | Act::Reclaim(file)
             | Act::Remove(file) => Some(file),
-            Act::Lose(_) => None,
+            Act::Lose(_) | Act::Sweep => None,
         }
     }
 }
@@ -102,7 +107,9 @@ impl Form {
             Form::Chunk(_) => LineWord::Chunk,
             Form::Points(_) => LineWord::Points,
             Form::Stage(_) => LineWord::Stage,
+            Form::Policy(_) => LineWord::Policy,
             Form::File(_) => LineWord::File,
+            Form::Tick(_) => LineWord::Tick,
             Form::Phase => LineWord::Phase,
             Form::Client => LineWord::Client,
             Form::Command(act) => LineWord::Command(act.verb()),
@@ -140,7 +147,7 @@ fn chunk_line(rest: Option<&[u8]>) -> Result<Form, Kind>
 }
 
 // The numbers that the words spell.
-fn numbers_of(alloc: Global, rest: Option<&[u8]>) -> Result<Vec<u64>, Kind>
+pub(crate) fn numbers_of(alloc: Global, rest: Option<&[u8]>) -> Result<Vec<u64>, Kind>
     ensures { SaysList result (numbers_in (behind rest.entry)) }
 {
     let mut numbers = Vec::new(alloc);
@@ -157,7 +164,7 @@ fn numbers_of(alloc: Global, rest: Option<&[u8]>) -> Result<Vec<u64>, Kind>
 }
 
 // Whether one of the numbers is above `most`.
-fn any_above(numbers: &[u64], most: u64) -> bool
+pub(crate) fn any_above(numbers: &[u64], most: u64) -> bool
     ensures { result ≡ list_any (is_above most) numbers.now }
 {
     numbers.iter().any(|n| *n > most)
@@ -215,14 +222,14 @@ fn phase_line(draft: &Draft, rest: Option<&[u8]>) -> Result<Form, Kind>
     ensures { result ≡ phase_form (so_in draft.now) (behind rest.entry) }
 {
     end_words(rest)?;
-    within(&[(draft.items.len() >= MAX_PHASES, LimitName::Phases)])?;
+    within(&[(draft.phases >= MAX_PHASES, LimitName::Phases)])?;
     Ok(Form::Phase)
 }
 
 fn client_line(draft: &Draft, rest: Option<&[u8]>) -> Result<Form, Kind>
     ensures { result ≡ client_form (so_in draft.now) (behind rest.entry) }
 {
-    if draft.has_client() {
+    if draft.clients >= 1 {
         return Err(Kind::Unknown);
     }
     end_words(rest)?;
@@ -358,6 +365,18 @@ fn away_operands(alloc: Global, draft: &Draft, rest: Option<&[u8]>) -> Result<(u
     Ok((file, Servers::of(&servers)))
 }
 
+// Nothing, where a command without an operand stands here, which needs a policy.
+fn sweep_operand(draft: &Draft, rest: Option<&[u8]>) -> Result<(), Kind>
+    ensures { result ≡ sweep_operand (so_in draft.now) (behind rest.entry) }
+{
+    end_words(rest)?;
+    command_fits(draft)?;
+    if draft.policy.is_none() {
+        return Err(Kind::Order);
+    }
+    Ok(())
+}
+
 // What a command does, by its word and what stands behind it.
 fn act_of(alloc: Global, draft: &Draft, verb: Verb, rest: Option<&[u8]>) -> Result<Act, Kind>
     requires { IsDraft draft.now }
@@ -383,6 +402,10 @@ fn act_of(alloc: Global, draft: &Draft, verb: Verb, rest: Option<&[u8]>) -> Resu
         Verb::Reclaim => Ok(Act::Reclaim(file_operand(draft, rest)?)),
         Verb::Remove => Ok(Act::Remove(file_operand(draft, rest)?)),
         Verb::Lose => Ok(Act::Lose(server_operand(draft, rest)?)),
+        Verb::Sweep => {
+            sweep_operand(draft, rest)?;
+            Ok(Act::Sweep)
+        }
     }
 }
 
@@ -413,7 +436,9 @@ fn form_of(alloc: Global, draft: &Draft, word: LineWord, rest: Option<&[u8]>) ->
         LineWord::Chunk => chunk_line(rest),
         LineWord::Points => points_line(alloc, rest),
         LineWord::Stage => stage_line(rest),
+        LineWord::Policy => policy_line(alloc, draft, rest),
         LineWord::File => file_line(alloc, draft, rest),
+        LineWord::Tick => tick_line(rest),
         LineWord::Phase => phase_line(draft, rest),
         LineWord::Client => client_line(draft, rest),
         LineWord::Command(verb) => Ok(Form::Command(act_of(alloc, draft, verb, rest)?)),
@@ -435,10 +460,17 @@ fn may_follow(last: LineWord, next: LineWord) -> bool
         LineWord::Servers => matches!(next, LineWord::Chunk),
         LineWord::Chunk => matches!(next, LineWord::Points),
         LineWord::Points => matches!(next, LineWord::Stage),
-        LineWord::Stage => matches!(next, LineWord::Stage | LineWord::File),
+        LineWord::Stage => {
+            matches!(next, LineWord::Stage | LineWord::Policy | LineWord::File)
+        }
+        LineWord::Policy => matches!(next, LineWord::File),
         LineWord::File => matches!(
             next,
-            LineWord::File | LineWord::Phase | LineWord::Dump | LineWord::End
+            LineWord::File | LineWord::Tick | LineWord::Phase | LineWord::Dump | LineWord::End
+        ),
+        LineWord::Tick => matches!(
+            next,
+            LineWord::Tick | LineWord::Phase | LineWord::Dump | LineWord::End
         ),
         LineWord::Phase => matches!(next, LineWord::Client),
         LineWord::Client | LineWord::Command(_) => matches!(
@@ -446,6 +478,7 @@ fn may_follow(last: LineWord, next: LineWord) -> bool
             LineWord::Command(_)
                 | LineWord::Client
                 | LineWord::Phase
+                | LineWord::Tick
                 | LineWord::Dump
                 | LineWord::End
         ),

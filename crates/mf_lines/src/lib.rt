@@ -2,6 +2,7 @@
 //! so far add up to.
 #![tactic(auto)]
 
+mod ages;
 mod draft;
 mod files;
 mod forms;

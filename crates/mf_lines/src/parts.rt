@@ -49,7 +49,8 @@ pub enum Kind {
     NoFile,
     /// No server has this number.
     NoServer,
-    /// The line may not stand here, or the text ends too early.
+    /// The line may not stand here, the thresholds don't rise from 0, a sweep has no policy, or the
+    /// text ends too early.
     Order,
     /// The stages are no chain over the servers.
     Shape(ShapeFault),
@@ -140,7 +141,7 @@ pub struct FileLine {
 }
 
 /// What a command does, on the file of this number, which can't reach the servers that are `away`;
-/// `Lose` is on the server of this number.
+/// `Lose` is on the server of this number, and `Sweep` on all files.
 #[derive(Clone, Copy, Debug, PartialEq, Eq)]
 pub enum Act {
     Create(u32),
@@ -163,6 +164,7 @@ pub enum Act {
     Reclaim(u32),
     Remove(u32),
     Lose(u32),
+    Sweep,
 }
 
 /// A command, and its line, from 1.
@@ -268,31 +270,24 @@ impl Clients {
     }
 }
 
-/// What stands between the files and the end.
+/// What stands between the files and the end: ticks of the clock, and phases.
 #[derive(Debug, Drop)]
 pub enum Item {
+    Tick(u64),
     Phase(Clients),
 }
 
 impl Item {
     ghost use Rattle.std.specs.Prelude.{◌≡◌};
-    ghost use Rattle.mf_lines.specs.declared.parts.Item.TheVariants.{Phase};
+    ghost use Rattle.mf_lines.specs.Meaning.{clients_in};
 
-    /// The clients of a phase.
+    /// The clients of a phase; ticks have none.
     pub fn clients(&self) -> &[Client]
-        ensures { self.now ≡ Phase result.now }
+        ensures { result.now ≡ clients_in self.now }
     {
         match self {
+            Item::Tick(_) => &[],
             Item::Phase(clients) => clients.as_slice(),
-        }
-    }
-
-    /// The clients of a phase.
-    pub fn into_clients(self) -> Clients
-        ensures { self ≡ Phase result }
-    {
-        match self {
-            Item::Phase(clients) => clients,
         }
     }
 }

@@ -101,5 +101,6 @@ pub fn push_act(
         | Act::Reclaim(file)
         | Act::Remove(file) => push_name(out, files, file),
         Act::Lose(server) => push_number(out, server),
+        Act::Sweep => Ok(()),
     }
 }

@@ -25,6 +25,7 @@ pub enum Verb {
     Reclaim,
     Remove,
     Lose,
+    Sweep,
 }
 
 impl Verb {
@@ -42,6 +43,7 @@ impl Verb {
             Verb::Reclaim => b"reclaim",
             Verb::Remove => b"remove",
             Verb::Lose => b"lose",
+            Verb::Sweep => b"sweep",
         }
     }
 }
@@ -54,7 +56,9 @@ pub enum LineWord {
     Chunk,
     Points,
     Stage,
+    Policy,
     File,
+    Tick,
     Phase,
     Client,
     Command(Verb),
@@ -62,13 +66,15 @@ pub enum LineWord {
     End,
 }
 
-const LINE_WORDS: [LineWord; 19] = [
+const LINE_WORDS: [LineWord; 22] = [
     LineWord::Morph,
     LineWord::Servers,
     LineWord::Chunk,
     LineWord::Points,
     LineWord::Stage,
+    LineWord::Policy,
     LineWord::File,
+    LineWord::Tick,
     LineWord::Phase,
     LineWord::Client,
     LineWord::Command(Verb::Create),
@@ -80,6 +86,7 @@ const LINE_WORDS: [LineWord; 19] = [
     LineWord::Command(Verb::Reclaim),
     LineWord::Command(Verb::Remove),
     LineWord::Command(Verb::Lose),
+    LineWord::Command(Verb::Sweep),
     LineWord::Dump,
     LineWord::End,
 ];
@@ -95,7 +102,9 @@ impl LineWord {
             LineWord::Chunk => b"chunk",
             LineWord::Points => b"points",
             LineWord::Stage => b"stage",
+            LineWord::Policy => b"policy",
             LineWord::File => b"file",
+            LineWord::Tick => b"tick",
             LineWord::Phase => b"phase",
             LineWord::Client => b"client",
             LineWord::Command(verb) => verb.text(),

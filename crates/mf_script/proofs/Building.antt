@@ -21,7 +21,8 @@ use Rattle.mf_lines.specs.Lines.{may_follow, may_follow_command}
 use Rattle.mf_lines.proofs.ListLemmas.{on_last-push}
 use Rattle.mf_lines.proofs.FormLemmas.{LineIs, line_is}
 use Rattle.mf_script.specs.Texts.{MakeForms, HasForms}
-use Rattle.mf_script.specs.Printing.{command_form, client_forms, item_forms, block_forms, store_forms, script_forms}
+use Rattle.mf_script.specs.Printing.{command_form, client_forms, item_forms, block_forms, policy_forms, store_forms}
+use Rattle.mf_script.specs.Printing.{script_forms}
 use Rattle.mf_script.proofs.Lists.{flat_push}
 
 -- ---- one more at the end
@@ -96,17 +97,23 @@ command_added items command h =
 -- one family, of which there are no points yet
 record Bare (s : Script) : Type 0 where
   families : s.families ≡ no_block ∷ []
+  policy : s.policy ≡ None
+  files : s.files ≡ []
+  items : s.items ≡ []
+  dumps : s.dumps ≡ []
+
+-- nothing behind the policy
+record Unfiled (s : Script) : Type 0 where
   files : s.files ≡ []
   items : s.items ≡ []
   dumps : s.dumps ≡ []
 
 -- one family, and nothing behind it
-record Unfiled (s : Script) : Type 0 where
+record Unruled (s : Script) : Type 0 where
   block : Block
   families : s.families ≡ block ∷ []
-  files : s.files ≡ []
-  items : s.items ≡ []
-  dumps : s.dumps ≡ []
+  policy : s.policy ≡ None
+  rest : Unfiled s
 
 filed : Script → List Form
 filed s = store_forms s ++ map says.File s.files
@@ -123,9 +130,11 @@ Built None s forms = (forms ≡ []) × Bare s
 Built (Some word.Morph) s forms = (forms ≡ says.Morph ∷ []) × Bare s
 Built (Some word.Servers) s forms = (forms ≡ says.Morph ∷ says.Servers s.servers ∷ []) × Bare s
 Built (Some word.Chunk) s forms = (forms ≡ says.Morph ∷ says.Servers s.servers ∷ says.Chunk s.chunk ∷ []) × Bare s
-Built (Some word.Points) s forms = (forms ≡ store_forms s) × Unfiled s
-Built (Some word.Stage) s forms = (forms ≡ store_forms s) × Unfiled s
+Built (Some word.Points) s forms = (forms ≡ store_forms s) × Unruled s
+Built (Some word.Stage) s forms = (forms ≡ store_forms s) × Unruled s
+Built (Some word.Policy) s forms = (forms ≡ store_forms s) × Unfiled s
 Built (Some word.File) s forms = (forms ≡ filed s) × (s.items ≡ []) × (s.dumps ≡ [])
+Built (Some word.Tick) s forms = (forms ≡ body s) × (s.dumps ≡ [])
 Built (Some word.Phase) s forms = (forms ≡ body s) × HasPhase s.items × (s.dumps ≡ [])
 Built (Some word.Client) s forms = (forms ≡ body s) × HasClient s.items × (s.dumps ≡ [])
 Built (Some (word.Command verb)) s forms = (forms ≡ body s) × HasClient s.items × (s.dumps ≡ [])
@@ -151,6 +160,15 @@ body_filed s e = sym (ap (λ is. filed s ++ flat_map item_forms is) e ∙ append
 body_whole : (s : Script) → s.dumps ≡ [] → body s ≡ whole s
 unfolding whole
 body_whole s e = sym (ap (λ ds. body s ++ map says.Dump ds) e ∙ append-nil (body s))
+
+add_tick : (s : Script) (n ticks : ℕ) (forms : List Form) → forms ≡ body s → s.dumps ≡ []
+    → Built (Some word.Tick) (with_form s n (says.Tick ticks)) (forms ++ says.Tick ticks ∷ [])
+unfolding Built body filed
+add_tick s n ticks forms e bare = (
+  push forms (body s) (says.Tick ticks) e
+      ∙ longer s (s.items ++ item.Tick ticks ∷ []) (says.Tick ticks) (flat_push item_forms s.items (item.Tick ticks)),
+  bare,
+)
 
 add_phase : (s : Script) (n : ℕ) (forms : List Form) → forms ≡ body s → s.dumps ≡ []
     → Built (Some word.Phase) (with_form s n says.Phase) (forms ++ says.Phase ∷ [])
@@ -191,10 +209,20 @@ add_dump s n file forms e =
     ∙ ap (λ r. body s ++ r) (sym (map_push says.Dump s.dumps file))
 
 -- the lines of the store, where the one family is this
-one_block : (s : Script) (block : Block) → s.families ≡ block ∷ []
+one_block : (s : Script) (block : Block) (policy : Option (List ℕ)) → s.families ≡ block ∷ [] → s.policy ≡ policy
+    → store_forms s
+    ≡ says.Morph ∷ says.Servers s.servers ∷ says.Chunk s.chunk ∷ (block_forms block ++ policy_forms policy)
+one_block s block policy e p =
+    (λ i. says.Morph ∷ says.Servers s.servers ∷ says.Chunk s.chunk
+    ∷ (flat_map block_forms (e i) ++ policy_forms (p i)))
+    ∙ ap (λ r. says.Morph ∷ says.Servers s.servers ∷ says.Chunk s.chunk ∷ (r ++ policy_forms policy))
+    (append-nil (block_forms block))
+
+-- and there is no policy
+lone_block : (s : Script) (block : Block) → s.families ≡ block ∷ [] → s.policy ≡ None
     → store_forms s ≡ says.Morph ∷ says.Servers s.servers ∷ says.Chunk s.chunk ∷ block_forms block
-one_block s block e =
-    ap (λ bs. says.Morph ∷ says.Servers s.servers ∷ says.Chunk s.chunk ∷ flat_map block_forms bs) e
+lone_block s block e none =
+    one_block s block None e none
     ∙ ap (λ r. says.Morph ∷ says.Servers s.servers ∷ says.Chunk s.chunk ∷ r) (append-nil (block_forms block))
 
 -- the points behind the chunk size, one stage more behind these, and one file more behind the store's lines
@@ -206,34 +234,42 @@ add_points s forms n points e bare =
     let one : on_last (with_points points) s.families ≡ with_points points no_block ∷ [] =
     ap (on_last (with_points points)) bare.families in (
       push forms _ (says.Points points) e
-          ∙ sym (one_block (with_form s n (says.Points points)) (with_points points no_block) one),
+          ∙ sym (lone_block (with_form s n (says.Points points)) (with_points points no_block) one bare.policy),
       record {
         block = with_points points no_block;
         families = one;
-        files = bare.files;
-        items = bare.items;
-        dumps = bare.dumps;
+        policy = bare.policy;
+        rest = record { files = bare.files; items = bare.items; dumps = bare.dumps };
       },
     )
 
-add_stage : (s : Script) (forms : List Form) (n : ℕ) (stage : Stage) → forms ≡ store_forms s → Unfiled s
+add_stage : (s : Script) (forms : List Form) (n : ℕ) (stage : Stage) → forms ≡ store_forms s → Unruled s
     → Built (Some word.Stage) (with_form s n (says.Stage stage)) (forms ++ says.Stage stage ∷ [])
 unfolding Built
 add_stage s forms n stage e h =
     let one : on_last (with_stage stage) s.families ≡ with_stage stage h.block ∷ [] =
     ap (on_last (with_stage stage)) h.families in (
-      push forms _ (says.Stage stage) (e ∙ one_block s h.block h.families)
+      push forms _ (says.Stage stage) (e ∙ lone_block s h.block h.families h.policy)
           ∙ ap (λ r. says.Morph ∷ says.Servers s.servers ∷ says.Chunk s.chunk ∷ says.Points h.block.points ∷ r)
           (sym (map_push says.Stage h.block.stages stage))
-          ∙ sym (one_block (with_form s n (says.Stage stage)) (with_stage stage h.block) one),
+          ∙ sym (lone_block (with_form s n (says.Stage stage)) (with_stage stage h.block) one h.policy),
       record {
         block = with_stage stage h.block;
         families = one;
-        files = h.files;
-        items = h.items;
-        dumps = h.dumps;
+        policy = h.policy;
+        rest = record { files = h.rest.files; items = h.rest.items; dumps = h.rest.dumps };
       },
     )
+
+-- a policy behind the stages
+add_policy : (s : Script) (forms : List Form) (n : ℕ) (thresholds : List ℕ) → forms ≡ store_forms s → Unruled s
+    → Built (Some word.Policy) (with_form s n (says.Policy thresholds)) (forms ++ says.Policy thresholds ∷ [])
+unfolding Built
+add_policy s forms n thresholds e h = (
+  push forms _ (says.Policy thresholds) (e ∙ lone_block s h.block h.families h.policy)
+      ∙ sym (one_block (with_form s n (says.Policy thresholds)) h.block (Some thresholds) h.families refl),
+  record { files = h.rest.files; items = h.rest.items; dumps = h.rest.dumps },
+)
 
 add_file : (s : Script) (forms : List Form) (n : ℕ) (file : FileLine) → forms ≡ filed s → s.items ≡ [] → s.dumps ≡ []
     → Built (Some word.File) (with_form s n (says.File file)) (forms ++ says.File file ∷ [])
@@ -257,6 +293,7 @@ unfolding Built
 in_client s n forms says.Client e is h bare =
     add_client s n forms is (record { before = h.before; clients = h.clients ++ h.client ∷ []; is = h.is }) bare
 in_client s n forms says.Phase e is h bare = add_phase s n forms is bare
+in_client s n forms (says.Tick ticks) e is h bare = add_tick s n ticks forms is bare
 in_client s n forms (says.Command act) e is h bare = add_command s n act forms is h bare
 in_client s n forms (says.Dump file) e is h bare = add_dump s n file forms (is ∙ body_whole s bare)
 in_client s n forms says.End e is h bare = push forms (whole s) says.End (is ∙ body_whole s bare)
@@ -268,23 +305,43 @@ built_more : (last : LineWord) (s : Script) (n : ℕ) (forms : List Form) (form 
 unfolding may_follow Built
 built_more word.Morph s n forms (says.Servers x) e h = (
   push forms _ (says.Servers x) h.0,
-  record { families = h.1.families; files = h.1.files; items = h.1.items; dumps = h.1.dumps },
+  record {
+    families = h.1.families;
+    policy = h.1.policy;
+    files = h.1.files;
+    items = h.1.items;
+    dumps = h.1.dumps;
+  },
 )
 built_more word.Servers s n forms (says.Chunk x) e h = (
   push forms _ (says.Chunk x) h.0,
-  record { families = h.1.families; files = h.1.files; items = h.1.items; dumps = h.1.dumps },
+  record {
+    families = h.1.families;
+    policy = h.1.policy;
+    files = h.1.files;
+    items = h.1.items;
+    dumps = h.1.dumps;
+  },
 )
 built_more word.Chunk s n forms (says.Points x) e h = add_points s forms n x h.0 h.1
 built_more word.Points s n forms (says.Stage stage) e h = add_stage s forms n stage h.0 h.1
 built_more word.Stage s n forms (says.Stage stage) e h = add_stage s forms n stage h.0 h.1
+built_more word.Stage s n forms (says.Policy thresholds) e h = add_policy s forms n thresholds h.0 h.1
 built_more word.Stage s n forms (says.File file) e h =
+    add_file s forms n file (h.0 ∙ filed_bare s h.1.rest.files) h.1.rest.items h.1.rest.dumps
+built_more word.Policy s n forms (says.File file) e h =
     add_file s forms n file (h.0 ∙ filed_bare s h.1.files) h.1.items h.1.dumps
 built_more word.File s n forms (says.File file) e h = add_file s forms n file h.0 h.1 h.2
+built_more word.File s n forms (says.Tick ticks) e h = add_tick s n ticks forms (h.0 ∙ body_filed s h.1) h.2
 built_more word.File s n forms says.Phase e h = add_phase s n forms (h.0 ∙ body_filed s h.1) h.2
 built_more word.File s n forms (says.Dump file) e h =
     add_dump s n file forms (h.0 ∙ body_filed s h.1 ∙ body_whole s h.2)
 built_more word.File s n forms says.End e h =
     push forms (whole s) says.End (h.0 ∙ body_filed s h.1 ∙ body_whole s h.2)
+built_more word.Tick s n forms (says.Tick ticks) e h = add_tick s n ticks forms h.0 h.1
+built_more word.Tick s n forms says.Phase e h = add_phase s n forms h.0 h.1
+built_more word.Tick s n forms (says.Dump file) e h = add_dump s n file forms (h.0 ∙ body_whole s h.1)
+built_more word.Tick s n forms says.End e h = push forms (whole s) says.End (h.0 ∙ body_whole s h.1)
 built_more word.Phase s n forms says.Client e h = add_client s n forms h.0 h.1 h.2
 built_more word.Client s n forms form e h = in_client s n forms form e h.0 h.1 h.2
 built_more (word.Command verb) s n forms form e h = in_client s n forms form e h.0 h.1 h.2
@@ -326,6 +383,7 @@ forms_are text forms has =
       refl,
       record {
         families = refl;
+        policy = refl;
         files = refl;
         items = refl;
         dumps = refl;

@@ -3,6 +3,8 @@ pub mod TextLemmas
 pub mod PassLemmas
 pub mod Building
 pub mod RoundTrip
+pub mod PhaseLemmas
+pub mod PolicyLemmas
 pub mod ScriptLemmas
 pub mod ReadingLemmas
 pub mod Exclusive

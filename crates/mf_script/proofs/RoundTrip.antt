@@ -57,6 +57,7 @@ same_words names more (act.Convert file away stop) h =
 same_words names more (act.Reclaim file) h = ap (λ w. w ∷ []) (sym (get_or_append_left names more [] file h))
 same_words names more (act.Remove file) h = ap (λ w. w ∷ []) (sym (get_or_append_left names more [] file h))
 same_words names more (act.Lose server) h = refl
+same_words names more act.Sweep h = refl
 
 same_text : (names more : List (List ℕ)) (form : Form) → KnowsFile names form
     → line_text names form ≡ line_text (names ++ more) form
@@ -275,7 +276,7 @@ joined_le (x ∷ y ∷ more) = go (lines_of_parts (y ∷ more)) (joined_le (y �
           length-append (strip_carriage_return x) (10 ∷ join_with_byte 10 (l ∷ ls)),
         )
 
-lines_le : (text : List ℕ) → length (join_with_byte 10 (lines_of text)) ≤ length text
+pub lines_le : (text : List ℕ) → length (join_with_byte 10 (lines_of text)) ≤ length text
 unfolding lines_of
 lines_le text =
     omega (arith, joined_le (slice_split (λ b. eqb b 10) text), ap length (join_with_byte-slice_split 10 text))

@@ -1,5 +1,6 @@
 -- What is read of a text: its script, or the fault of its stages or points; and what a script's parts are.
 use Rattle.std.proofs.Common.{◌≡◌, ◌≢◌, ℕ, zero, suc, get_or, ◌+◌, ◌<◌, ◌≤◌, List, [], ◌∷◌, ◌++◌, map, length, Result}
+use Rattle.std.proofs.Common.{Option}
 use Rattle.std.proofs.Common.{Ok, Err, refl, sym, ap, ◌∙◌, subst, arith, inl, inr}
 use Rattle.std.specs.Prelude.{codes, IfOk, All}
 use Rattle.std.proofs.lemmas.List.{map_push, length-map}
@@ -119,8 +120,8 @@ module _ (text : List ℕ) (draft : Draft) (read : read_text text ≡ Ok (so_in 
       (code : IsCode family) where
     abbrev read_script : Script
     read_script =
-        script_with draft.servers draft.chunk families draft.files.items draft.file_families.items draft.items.items
-        draft.dumps.items
+        script_with draft.servers draft.chunk families draft.policy draft.files.items draft.file_families.items
+        draft.items.items draft.dumps.items
 
     blocks : map block_of families ≡ main_of (script_in draft) ∷ []
     blocks = ap (map block_of) one
@@ -132,6 +133,7 @@ module _ (text : List ℕ) (draft : Draft) (read : read_text text ≡ Ok (so_in 
           servers = draft.servers;
           chunk = draft.chunk;
           families = blocks i;
+          policy = draft.policy;
           files = draft.files.items;
           file_families = draft.file_families.items;
           items = draft.items.items;
@@ -213,11 +215,11 @@ zeros [] i = refl
 zeros (f ∷ files) zero = refl
 zeros (f ∷ files) (suc i) = zeros files i
 
-module _ (servers chunk : ℕ) (files : List FileLine) (file_families : List ℕ) (items : List Item)
-    (dumps : List ℕ) where
+module _ (servers chunk : ℕ) (policy : Option (List ℕ)) (files : List FileLine) (file_families : List ℕ)
+    (items : List Item) (dumps : List ℕ) where
   -- what a script says that has these families
   abbrev of : List NamedFamily → Script
-  of families = script_with servers chunk families files file_families items dumps
+  of families = script_with servers chunk families policy files file_families items dumps
 
   pub has_main : (families : List NamedFamily) → HasOne (of families) → 0 < length families
   has_main [] one = absurd (let none = one.families in cc)
@@ -256,12 +258,12 @@ if_ok-map (Ok x) P Q f h = f x h
 if_ok-map (Err e) P Q f h = h
 
 -- the text of a script doesn't say the numbers of families
-pub printed_text : (servers chunk : ℕ) (families : List NamedFamily) (files : List FileLine) (file_families : List ℕ)
-    (items : List Item) (dumps : List ℕ)
-    → script_text (script_with servers chunk families files [] items dumps) ≡ script_text
-    (script_with servers chunk families files file_families items dumps)
+pub printed_text : (servers chunk : ℕ) (families : List NamedFamily) (policy : Option (List ℕ)) (files : List FileLine)
+    (file_families : List ℕ) (items : List Item) (dumps : List ℕ)
+    → script_text (script_with servers chunk families policy files [] items dumps) ≡ script_text
+    (script_with servers chunk families policy files file_families items dumps)
 unfolding script_text script_forms
-printed_text servers chunk families files file_families items dumps = refl
+printed_text servers chunk families policy files file_families items dumps = refl
 
 -- a script has at most 128 servers
 few_servers : (text : List ℕ) (s : Script) (is : IsScript text s) → (so_of is.forms).script.servers ≤ 128

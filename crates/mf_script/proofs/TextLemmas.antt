@@ -1,6 +1,6 @@
 -- The text of a script, written from front to back.
 use Rattle.std.proofs.Common.{◌≡◌, ℕ, ◌+◌, ◌<◌, List, [], ◌∷◌, ◌++◌, map, length, get_or, take, refl, sym, ap, ◌∙◌}
-use Rattle.std.specs.Prelude.{codes, Result, Ok, Err, OnOk}
+use Rattle.std.specs.Prelude.{codes, Result, Ok, Err, OnOk, Option, Some, None}
 use Rattle.std.specs.List.{flat_map, join_with_byte}
 use Rattle.std.proofs.lemmas.Grind.{flat_map-append}
 use Rattle.std.proofs.lemmas.List.{append_assoc, append-nil, map_more, take_more}
@@ -15,7 +15,7 @@ use Rattle.mf_lines.specs.declared.parts.Item.TheVariants as item
 use Rattle.mf_script.specs.declared.script.NamedFamily.{NamedFamily}
 use Rattle.mf_lines.specs.Meaning.{Block}
 use Rattle.mf_lines.specs.LineTexts.{line_text}
-use Rattle.mf_script.specs.Printing.{client_forms, item_forms, block_forms, script_forms, script_text}
+use Rattle.mf_script.specs.Printing.{client_forms, item_forms, block_forms, policy_forms, script_forms, script_text}
 use Rattle.mf_script.specs.Scripts.{block_of, script_with}
 use Rattle.mf_script.specs.Printing.{next_line, lines_text}
 use Rattle.mf_lines.specs.Meaning.{names_in}
@@ -39,6 +39,11 @@ join_spaced word (n ∷ ns) = ap (λ r. word ++ 32 ∷ r) (join_spaced (decimal_
 pub points_end : (points : List ℕ) → 10 ∷ (codes "points" ++ flat_map spaced points) ≡ next_line [] (says.Points points)
 unfolding line_text
 points_end points = ap (λ r. 10 ∷ r) (sym (join_spaced (codes "points") points))
+
+pub thresholds_end : (thresholds : List ℕ)
+    → 10 ∷ (codes "policy" ++ flat_map spaced thresholds) ≡ next_line [] (says.Policy thresholds)
+unfolding line_text
+thresholds_end thresholds = ap (λ r. 10 ∷ r) (sym (join_spaced (codes "policy") thresholds))
 
 -- ---- lines behind LFs
 
@@ -89,6 +94,17 @@ blocks_text names (b ∷ blocks) =
     ∙ (λ i. block_text names b i ++ blocks_text names blocks i)
     ∙ sym (lines_text-append [] (block_forms b) (flat_map block_forms blocks))
 
+policy_text : (names : List (List ℕ)) (policy : Option (List ℕ))
+    → lines_text names (policy_forms policy) ≡ lines_text [] (policy_forms policy)
+unfolding lines_text line_text
+policy_text names None = refl
+policy_text names (Some thresholds) = refl
+
+pub tick_text : (names : List (List ℕ)) (ticks : ℕ)
+    → next_line [] (says.Tick ticks) ≡ lines_text names (item_forms (item.Tick ticks))
+unfolding lines_text line_text
+tick_text names ticks = sym (append-nil (next_line [] (says.Tick ticks)))
+
 files_text : (names : List (List ℕ)) (files : List FileLine)
     → lines_text names (map says.File files) ≡ lines_text [] (map says.File files)
 unfolding lines_text line_text
@@ -106,38 +122,42 @@ end_text : (names : List (List ℕ)) → lines_text names (says.End ∷ []) ≡ 
 unfolding lines_text line_text
 end_text names = refl
 
-regroup : (m a b s f i d e : List ℕ)
-    → m ++ ((a ++ b) ++ ((((s ++ f) ++ i) ++ d) ++ e)) ≡ ((((((m ++ a) ++ b) ++ s) ++ f) ++ i) ++ d) ++ e
-regroup m a b s f i d e = sym (simp append_assoc)
+regroup : (m a b s p f i d e : List ℕ)
+    → m ++ ((a ++ b) ++ (((((s ++ p) ++ f) ++ i) ++ d) ++ e)) ≡ (((((((m ++ a) ++ b) ++ s) ++ p) ++ f) ++ i) ++ d) ++ e
+regroup m a b s p f i d e = sym (simp append_assoc)
 
-pub whole_text : (servers chunk : ℕ) (families : List NamedFamily) (files : List FileLine) (items : List Item)
-    (dumps : List ℕ)
-    → ((((((codes "morph 1" ++ next_line [] (says.Servers servers)) ++ next_line [] (says.Chunk chunk))
-    ++ lines_text [] (flat_map block_forms (map block_of families)))
+pub whole_text : (servers chunk : ℕ) (families : List NamedFamily) (policy : Option (List ℕ)) (files : List FileLine)
+    (items : List Item) (dumps : List ℕ)
+    → (((((((codes "morph 1" ++ next_line [] (says.Servers servers)) ++ next_line [] (says.Chunk chunk))
+    ++ lines_text [] (flat_map block_forms (map block_of families))) ++ lines_text [] (policy_forms policy))
     ++ lines_text [] (map says.File files)) ++ lines_text (names_in files) (flat_map item_forms items))
     ++ lines_text (names_in files) (map says.Dump dumps)) ++ 10 ∷ codes "end"
-    ≡ script_text (script_with servers chunk families files [] items dumps)
+    ≡ script_text (script_with servers chunk families policy files [] items dumps)
 unfolding script_text script_forms line_text
-whole_text servers chunk families files items dumps =
+whole_text servers chunk families policy files items dumps =
     let names : List (List ℕ) = names_in files in
-    let bs : List Form = flat_map block_forms (map block_of families) in
+    let rs : List Form = flat_map block_forms (map block_of families) in
+    let bs : List Form = rs ++ policy_forms policy in
     let fs : List Form = map says.File files in
     let ps : List Form = flat_map item_forms items in
     let ds : List Form = map says.Dump dumps in
     let a : List ℕ = next_line [] (says.Servers servers) in
     let b : List ℕ = next_line [] (says.Chunk chunk) in
     let rest : lines_text names ((bs ++ fs ++ ps ++ ds) ++ says.End ∷ []) ≡
-    (((lines_text [] bs ++ lines_text [] fs) ++ lines_text names ps) ++ lines_text names ds) ++ 10 ∷ codes "end" =
+    ((((lines_text [] rs ++ lines_text [] (policy_forms policy)) ++ lines_text [] fs) ++ lines_text names ps)
+    ++ lines_text names ds) ++ 10 ∷ codes "end" =
     lines_text-append names (bs ++ fs ++ ps ++ ds) (says.End ∷ [])
     ∙ (λ i. (lines_text-append names (bs ++ fs ++ ps) ds
     ∙ ap (λ x. x ++ lines_text names ds) (lines_text-append names (bs ++ fs) ps
     ∙ ap (λ x. x ++ lines_text names ps) (lines_text-append names bs fs
-    ∙ (λ j. blocks_text names (map block_of families) j ++ files_text names files j)))) i ++ end_text names i) in
+    ∙ (λ j. (lines_text-append names rs (policy_forms policy)
+    ∙ (λ k. blocks_text names (map block_of families) k ++ policy_text names policy k)) j
+    ++ files_text names files j)))) i ++ end_text names i) in
     sym (
     join_lines names says.Morph (says.Servers servers ∷ says.Chunk chunk ∷ ((bs ++ fs ++ ps ++ ds) ++ says.End ∷ []))
     ∙ ap (λ x. codes "morph 1" ++ x) (store_text names servers chunk ((bs ++ fs ++ ps ++ ds) ++ says.End ∷ [])
     ∙ ap (λ x. (a ++ b) ++ x) rest)
-    ∙ regroup (codes "morph 1") a b (lines_text [] bs) (lines_text [] fs) (lines_text names ps) (lines_text names ds)
+    ∙ regroup (codes "morph 1") a b (lines_text [] rs) (lines_text [] (policy_forms policy)) (lines_text [] fs) (lines_text names ps) (lines_text names ds)
     (10 ∷ codes "end"))
 
 -- ---- the loops

@@ -1,5 +1,5 @@
 -- The text of a script.
-use Rattle.std.specs.Prelude.{ℕ, List, [], ◌∷◌, ◌++◌, map}
+use Rattle.std.specs.Prelude.{ℕ, List, [], ◌∷◌, ◌++◌, map, Option, Some, None}
 use Rattle.std.specs.List.{flat_map, join_with_byte}
 use Rattle.mf_lines.specs.declared.parts.Command.{Command}
 use Rattle.mf_lines.specs.declared.parts.Client.{Client}
@@ -20,17 +20,25 @@ command_form command = says.Command command.act
 abbrev pub client_forms : Client → List Form
 client_forms client = says.Client ∷ map command_form client.commands
 
--- of a phase
+-- of ticks or a phase
 abbrev pub item_forms : Item → List Form
+item_forms (item.Tick ticks) = says.Tick ticks ∷ []
 item_forms (item.Phase clients) = says.Phase ∷ flat_map client_forms clients
 
 -- of a family
 abbrev pub block_forms : Block → List Form
 block_forms block = says.Points block.points ∷ map says.Stage block.stages
 
+-- of a policy's thresholds, if there are any
+abbrev pub policy_forms : Option (List ℕ) → List Form
+policy_forms None = []
+policy_forms (Some thresholds) = says.Policy thresholds ∷ []
+
 -- of the store
 abbrev pub store_forms : Script → List Form
-store_forms s = says.Morph ∷ says.Servers s.servers ∷ says.Chunk s.chunk ∷ flat_map block_forms s.families
+store_forms s =
+    says.Morph ∷ says.Servers s.servers ∷ says.Chunk s.chunk
+    ∷ (flat_map block_forms s.families ++ policy_forms s.policy)
 
 -- of the whole script
 unfoldable pub script_forms : Script → List Form

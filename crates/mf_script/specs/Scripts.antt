@@ -1,5 +1,5 @@
 -- A script: what contracts see of one, and which text is one.
-use Rattle.std.specs.Prelude.{◌≡◌, ℕ, List, map}
+use Rattle.std.specs.Prelude.{◌≡◌, ℕ, List, map, Option}
 use Rattle.std.specs.List.{All}
 use Rattle.mf_check.specs.Families.{Code, IsCode}
 use Rattle.mf_lines.specs.declared.parts.FileLine.{FileLine}
@@ -14,12 +14,13 @@ abbrev pub block_of : NamedFamily → Block
 block_of named = record { name = named.name; points = named.family.points; stages = named.family.shape.stages }
 
 -- what a script says whose parts are these
-abbrev pub script_with : ℕ → ℕ → List NamedFamily → List FileLine → List ℕ → List Item → List ℕ → Script
-script_with servers chunk families files file_families items dumps =
+abbrev pub script_with : ℕ → ℕ → List NamedFamily → Option (List ℕ) → List FileLine → List ℕ → List Item → List ℕ → Script
+script_with servers chunk families policy files file_families items dumps =
     record {
       servers = servers;
       chunk = chunk;
       families = map block_of families;
+      policy = policy;
       files = files;
       file_families = file_families;
       items = items;

@@ -4,6 +4,7 @@
 mod contents;
 mod laws;
 mod losses;
+mod phases;
 mod printing;
 mod reading;
 mod script;

@@ -1,14 +1,16 @@
 //! The text of a script, written line by line.
 
 ghost use Rattle.std.specs.Prelude.{◌≡◌, ◌≤◌, ◌∷◌, ◌++◌, [], ℕ, List, length, map, IfOk, OnOk};
+ghost use Rattle.std.specs.Prelude.{option_copied};
 ghost use Rattle.std.specs.List.{flat_map};
 ghost use Rattle.mf_text.specs.Decimal.{decimal_text};
 ghost use Rattle.mf_text.specs.Lines.{lines_of};
 ghost use Rattle.mf_lines.specs.declared.forms.Form.TheVariants as says;
+ghost use Rattle.mf_lines.specs.declared.parts.Item.TheVariants as item;
 ghost use Rattle.mf_lines.specs.Words.{word_text, content_text};
 ghost use Rattle.mf_lines.specs.Meaning.{names_in};
 ghost use Rattle.mf_lines.specs.LineTexts.{line_text};
-ghost use Rattle.mf_script.specs.Printing.{command_form, client_forms, item_forms, block_forms};
+ghost use Rattle.mf_script.specs.Printing.{client_forms, item_forms, block_forms, policy_forms};
 ghost use Rattle.mf_script.specs.Printing.{next_line, lines_text, script_text, AreAlike};
 ghost use Rattle.mf_script.specs.Scripts.{block_of, script_with, IsScript};
 
@@ -16,6 +18,7 @@ use crate::script::{NamedFamily, Script};
 use mf_lines::{
     Act, Client, Command, Content, ContentWord, FileLine, Item, LineWord, name_of, push_act,
 };
+use mf_policy::Policy;
 use mf_shape::Stage;
 use mf_text::{push_decimal, push_hex};
 use std::alloc::{AllocError, Global};
@@ -37,11 +40,11 @@ fn push_word(out: &mut Vec<u8>, word: &[u8]) -> Result<(), AllocError>
 }
 
 // A space, and a number.
-fn push_number(out: &mut Vec<u8>, n: u32) -> Result<(), AllocError>
+fn push_number(out: &mut Vec<u8>, n: u64) -> Result<(), AllocError>
     ensures { OnOk result (out.new.items ≡ out.old.items ++ 32 ∷ decimal_text n) }
 {
     out.push(b' ')?;
-    push_decimal(out, u64::from(n))
+    push_decimal(out, n)
 }
 
 // The line of the servers.
@@ -50,7 +53,7 @@ fn push_servers(out: &mut Vec<u8>, servers: u32) -> Result<(), AllocError>
     ensures { OnOk result (out.new.items ≡ out.old.items ++ next_line [] (says.Servers servers)) }
 {
     begin(out, LineWord::Servers)?;
-    push_number(out, servers)
+    push_number(out, u64::from(servers))
 }
 
 // The line of the chunk size.
@@ -59,7 +62,7 @@ fn push_chunk(out: &mut Vec<u8>, chunk: u32) -> Result<(), AllocError>
     ensures { OnOk result (out.new.items ≡ out.old.items ++ next_line [] (says.Chunk chunk)) }
 {
     begin(out, LineWord::Chunk)?;
-    push_number(out, chunk)
+    push_number(out, u64::from(chunk))
 }
 
 // The line of the points.
@@ -68,7 +71,7 @@ fn push_points(out: &mut Vec<u8>, points: &[u8]) -> Result<(), AllocError>
 {
     begin(out, LineWord::Points)?;
     for point in points {
-        push_number(out, u32::from(*point))?;
+        push_number(out, u64::from(*point))?;
     }
     Ok(())
 }
@@ -79,9 +82,32 @@ fn push_stage(out: &mut Vec<u8>, stage: Stage) -> Result<(), AllocError>
     ensures { OnOk result (out.new.items ≡ out.old.items ++ next_line [] (says.Stage stage)) }
 {
     begin(out, LineWord::Stage)?;
-    push_number(out, stage.width)?;
-    push_number(out, stage.parities)?;
-    push_number(out, stage.copies)
+    push_number(out, u64::from(stage.width))?;
+    push_number(out, u64::from(stage.parities))?;
+    push_number(out, u64::from(stage.copies))
+}
+
+// The line of thresholds.
+fn push_thresholds(out: &mut Vec<u8>, thresholds: &[u64]) -> Result<(), AllocError>
+    ensures { OnOk result
+        (out.new.items ≡ out.old.items ++ next_line [] (says.Policy thresholds.now)) }
+{
+    begin(out, LineWord::Policy)?;
+    for threshold in thresholds {
+        push_number(out, *threshold)?;
+    }
+    Ok(())
+}
+
+// The line of a policy, if there is one.
+fn push_policy(out: &mut Vec<u8>, policy: Option<&Policy>) -> Result<(), AllocError>
+    ensures { OnOk result (out.new.items
+        ≡ out.old.items ++ lines_text [] (policy_forms (option_copied policy.entry))) }
+{
+    match policy {
+        None => Ok(()),
+        Some(policy) => push_thresholds(out, policy.thresholds()),
+    }
 }
 
 // The line of a file.
@@ -104,8 +130,8 @@ fn push_file(out: &mut Vec<u8>, file: &FileLine) -> Result<(), AllocError>
         }
         Content::Pattern { length, start } => {
             push_word(out, ContentWord::Pattern.text())?;
-            push_number(out, *length)?;
-            push_number(out, *start)
+            push_number(out, u64::from(*length))?;
+            push_number(out, u64::from(*start))
         }
     }
 }
@@ -196,6 +222,32 @@ fn push_client(
     Ok(())
 }
 
+// The line of ticks.
+#[tactic(auto, unfolding(mf_lines::specs::LineTexts::line_text), using(std::proofs::lemmas::List::append_assoc))]
+fn push_tick(out: &mut Vec<u8>, ticks: u64) -> Result<(), AllocError>
+    ensures { OnOk result (out.new.items ≡ out.old.items ++ next_line [] (says.Tick ticks)) }
+{
+    begin(out, LineWord::Tick)?;
+    push_number(out, ticks)
+}
+
+// The lines of a phase.
+fn push_phase(
+    alloc: Global,
+    out: &mut Vec<u8>,
+    files: &[FileLine],
+    clients: &[Client],
+) -> Result<(), AllocError>
+    ensures { OnOk result (out.new.items
+        ≡ out.old.items ++ lines_text (names_in files.now) (item_forms (item.Phase clients.now))) }
+{
+    begin(out, LineWord::Phase)?;
+    for client in clients {
+        push_client(alloc, out, files, client)?;
+    }
+    Ok(())
+}
+
 // The lines of an item.
 fn push_item(
     alloc: Global,
@@ -206,11 +258,10 @@ fn push_item(
     ensures { OnOk result
         (out.new.items ≡ out.old.items ++ lines_text (names_in files.now) (item_forms item.now)) }
 {
-    begin(out, LineWord::Phase)?;
-    for client in item.clients() {
-        push_client(alloc, out, files, client)?;
+    match item {
+        Item::Tick(ticks) => push_tick(out, *ticks),
+        Item::Phase(clients) => push_phase(alloc, out, files, clients.as_slice()),
     }
-    Ok(())
 }
 
 // The lines of the items.
@@ -248,18 +299,20 @@ fn print(
     servers: u32,
     chunk: u32,
     families: &[NamedFamily],
+    policy: Option<&Policy>,
     files: &[FileLine],
     items: &[Item],
     dumps: &[u32],
 ) -> Result<Vec<u8>, AllocError>
     ensures { IfOk result
-        (λ v. v.items
-        ≡ script_text (script_with servers chunk families.now files.now [] items.now dumps.now)) }
+        (λ v. v.items ≡ script_text (script_with servers chunk families.now
+        (option_copied policy.entry) files.now [] items.now dumps.now)) }
 {
     let mut out = Vec::from_slice(alloc, b"morph 1")?;
     push_servers(&mut out, servers)?;
     push_chunk(&mut out, chunk)?;
     push_families(&mut out, families)?;
+    push_policy(&mut out, policy)?;
     push_files(&mut out, files)?;
     push_items(alloc, &mut out, files, items)?;
     push_dumps(&mut out, files, dumps)?;
@@ -283,6 +336,7 @@ pub fn print_script(alloc: Global, script: &Script) -> Result<Vec<u8>, AllocErro
         script.servers,
         script.chunk,
         &script.families,
+        script.policy.as_ref(),
         &script.files,
         &script.items,
         &script.dumps,

@@ -129,6 +129,7 @@ pub fn read_script(alloc: Global, text: &[u8]) -> Result<Script, ScriptFault>
         servers: draft.servers,
         chunk: draft.chunk,
         families,
+        policy: draft.policy,
         files: draft.files,
         file_families: draft.file_families,
         items: draft.items,

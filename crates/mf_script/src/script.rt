@@ -1,9 +1,11 @@
 //! Scripts.
 
-use crate::losses::add_items;
+use crate::losses::add_phases;
+use crate::phases::{clients_at, ticks_ahead};
 use mf_check::Family;
-use mf_lines::{Bytes, FileLine, Item};
+use mf_lines::{Bytes, Client, FileLine, Item};
 use mf_places::Losses;
+use mf_policy::Policy;
 use std::alloc::{AllocError, Global};
 use std::marker::Model;
 
@@ -14,14 +16,15 @@ pub struct NamedFamily {
     pub family: Family,
 }
 
-/// A script: its servers, its chunk size, its families, its files, each of which belongs to a
-/// family, what stands behind these, and the files of its dump lines. A script of this version has
-/// one family, named `main`.
+/// A script: its servers, its chunk size, its families, its policy, its files, each of which belongs
+/// to a family, what stands behind these, and the files of its dump lines. A script of this version
+/// has one family, named `main`.
 #[derive(Debug, Drop)]
 pub struct Script {
     pub(crate) servers: u32,
     pub(crate) chunk: u32,
     pub(crate) families: Vec<NamedFamily>,
+    pub(crate) policy: Option<Policy>,
     pub(crate) files: Vec<FileLine>,
     // The number of each file's family.
     pub(crate) file_families: Vec<u32>,
@@ -37,18 +40,20 @@ impl Model for Script {
     ghost Value = { meaning.Script };
 
     ghost view = { λ s. script_with s.servers s.chunk
-        s.families.items s.files.items s.file_families.items s.items.items s.dumps.items };
+        s.families.items s.policy s.files.items s.file_families.items s.items.items s.dumps.items };
 
     ghost invariant = { λ s. IsKept s.families.items
         (script_with s.servers s.chunk
-        s.families.items s.files.items s.file_families.items s.items.items s.dumps.items) };
+        s.families.items s.policy s.files.items s.file_families.items s.items.items s.dumps.items) };
 }
 
 impl Script {
-    ghost use Rattle.std.specs.Prelude.{◌≡◌, ◌<◌, ℕ, List, length, slice_index, IfOk};
+    ghost use Rattle.std.specs.Prelude.{◌≡◌, ◌<◌, ◌≤◌, ℕ, List, length, slice_index, option_copied};
+    ghost use Rattle.std.specs.Prelude.{IfOk};
     ghost use Rattle.mf_lines.specs.Meaning.{main_of};
     ghost use Rattle.mf_script.specs.Scripts.{code_of, IsScript};
     ghost use Rattle.mf_script.specs.Losses.{losses_of};
+    ghost use Rattle.mf_script.specs.Phases.{clients_of, ticks_before};
 
     /// The family, to which every file belongs.
     pub fn family(&self) -> &Family
@@ -73,6 +78,13 @@ impl Script {
         self.chunk
     }
 
+    /// The policy, if there is one.
+    pub fn policy(&self) -> Option<&Policy>
+        ensures { option_copied result ≡ self.now.policy }
+    {
+        self.policy.as_ref()
+    }
+
     /// The files, by their numbers.
     pub fn files(&self) -> &[FileLine]
         ensures { result.now ≡ self.now.files }
@@ -80,7 +92,7 @@ impl Script {
         self.files.as_slice()
     }
 
-    /// The phases, in order. What is told besides is kept by every script.
+    /// The ticks and the phases, in order. What is told besides is kept by every script.
     pub fn items(&self) -> &[Item]
         ensures value { result.now ≡ self.now.items }
         ensures kept { (text : List ℕ) × IsScript text self.now }
@@ -100,10 +112,26 @@ impl Script {
     pub fn losses(&self, alloc: Global, phase: u32) -> Result<Losses, AllocError>
         ensures { IfOk result (λ losses. losses ≡ losses_of self.now phase) }
     {
-        let items = self.items.as_slice();
-        let many = items.len().min(phase as usize);
         let mut losses = Losses::new(alloc);
-        add_items(&mut losses, &items[..many])?;
+        add_phases(&mut losses, &self.items, phase)?;
         Ok(losses)
+    }
+
+    /// The clients of a phase, in order; phases are numbered from 1, and one that isn't there has
+    /// no clients.
+    pub fn clients(&self, phase: u32) -> &[Client]
+        requires { 1 ≤ phase }
+        ensures { result.now ≡ clients_of self.now phase }
+    {
+        clients_at(&self.items, phase - 1)
+    }
+
+    /// The ticks before a phase: the sum over the tick lines in front of it. Phases are numbered
+    /// from 1.
+    pub fn ticks_before(&self, phase: u32) -> u64
+        requires { 1 ≤ phase }
+        ensures { result ≡ ticks_before self.now phase }
+    {
+        ticks_ahead(&self.items, phase - 1)
     }
 }

@@ -1,4 +1,6 @@
-use crate::{Act, Item, Kind, LimitName, content_bytes, print_script, read_script};
+mod ages;
+
+use crate::{Act, Kind, LimitName, content_bytes, print_script, read_script};
 use mf_check::FamilyFault;
 use mf_places::Servers;
 use mf_shape::ShapeFault;
@@ -50,11 +52,11 @@ static UNKNOWN: [(u32, &[u8], &[u8]); 18] = [
     (2, b"serverss 6", b"unknown"),
     (3, b"", b"unknown"),
     (3, b" chunk 1", b"unknown"),
-    (7, b"policy 0", b"unknown"),
+    (7, b"policies 0", b"unknown"),
     (7, b"file a blob x", b"unknown"),
     (7, b"file a  x", b"unknown"),
     (7, b"file A blob", b"unknown"),
-    (8, b"tick 1", b"unknown"),
+    (8, b"ticks 1", b"unknown"),
     (10, b"client", b"unknown"),
     (10, b"client 1", b"unknown"),
     (10, b"holds a", b"unknown"),
@@ -732,8 +734,8 @@ fn a_script_has_what_its_lines_say(rt: HostRuntime) -> Result<(), Fail> {
     assert_eq!(rt; bytes.as_slice(), b" x ".as_slice());
     let bytes = content_bytes(alloc, &files[3].content)?;
     assert_eq!(rt; bytes.as_slice(), [250, 0, 1].as_slice());
-    let Item::Phase(clients) = script.items().first().ok_or("items")?;
-    let client = clients.as_slice().first().ok_or("clients")?;
+    let item = script.items().first().ok_or("items")?;
+    let client = item.clients().first().ok_or("clients")?;
     let read = client.commands.as_slice().get(1).ok_or("commands")?;
     assert_eq!(rt; read.line, 14);
     assert_eq!(rt;

@@ -1,5 +1,4 @@
-use Rattle.std.proofs.Common.{◌++◌, ◌∷◌, [], ◌∙◌, ap, sym}
-use Rattle.mf_lines.specs.declared.parts.Item.TheVariants as item
+use Rattle.std.proofs.Common.{◌++◌, ◌∷◌, [], ◌∙◌, ap}
 use Rattle.mf_lines.specs.Meaning.{with_command}
 use Rattle.mf_lines.proofs.ListLemmas.{put_back}
 use Rattle.mf_lines.proofs.draft.add_command.Goals as goal
@@ -8,6 +7,4 @@ pub returns-in_ok-push : goal.returns-in_ok-push
 returns-in_ok-push c =
     put_back (with_command c.args.command) c.args.items.now.items c.pop.new.self.items c.push.new.self.items
     c.pop.result c.in-Some.item c.pop.ensures.items c.in-Some.is
-    (c.in_ok-push.ensures.items
-    ∙ ap (λ x. c.pop.new.self.items ++ item.Phase x ∷ []) c.in_ok-clients.ensures
-    ∙ ap (λ x. c.pop.new.self.items ++ with_command c.args.command x ∷ []) (sym c.into_clients.ensures))
+    (c.in_ok-push.ensures.items ∙ ap (λ x. c.pop.new.self.items ++ x ∷ []) c.in_ok-with_command.ensures)

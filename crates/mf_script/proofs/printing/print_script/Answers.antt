@@ -9,9 +9,9 @@ pub returns-clause-text : goal.returns-clause-text
 returns-clause-text c =
     let s = c.script.inside in
     if_ok-map c.print.result _ _
-    (λ v is. is ∙ printed_text s.servers s.chunk _ _ s.file_families.items _ _
+    (λ v is. is ∙ printed_text s.servers s.chunk _ _ _ s.file_families.items _ _
     ∙ ap script_text
-    ((λ i. script_with s.servers s.chunk (c.deref.ensures.value i)
+    ((λ i. script_with s.servers s.chunk (c.deref.ensures.value i) (c.as_ref.ensures.value i)
     (c.deref-2.ensures.value i) s.file_families.items (c.deref-3.ensures.value i) (c.deref-4.ensures.value i))
     ∙ c.script.view_is))
     c.print.ensures

@@ -28,7 +28,10 @@ returns-in_ok-push-in-File-2-clause-draft c =
           ∙ map_push (λ n. n.items) keys c.in_ok-name-in-File.name
           ∙ (λ i. c.requires.draft.names i ++ is i ∷ [])
           ∙ sym (ap names_in more ∙ map_push (λ f. f.name) files c.in-File.file);
+      stages = let stages = c.requires.draft.stages in omega arith;
       files = omega arith;
+      phases = let phases = c.requires.draft.phases in omega arith;
+      clients = let clients = c.requires.draft.clients in omega arith;
       commands = omega arith;
       lines = omega arith;
     }

@@ -12,7 +12,7 @@ bounds-as_slice-file c =
     let files : length s.files.items ≡ length c.args.self.now.files =
     ap (λ (v : Script). length v.files) c.self.view_is in
     subst (λ (hs : List ℕ). c.args.file < length hs) (sym c.as_slice.ensures.value)
-    (home_within s.servers s.chunk s.files.items s.file_families.items s.items.items s.dumps.items
+    (home_within s.servers s.chunk s.policy s.files.items s.file_families.items s.items.items s.dumps.items
     s.families.items c.args.file
     (HasOne-script c.self.invariant.text _ c.self.invariant.is) (omega (arith, c.requires)))
 
@@ -29,11 +29,11 @@ returns-clause-family c =
     ap (λ (v : Script). length v.files) c.self.view_is in
     let home : slice_index c.as_slice.result.now c.args.file ≡ 0 =
     ap (λ hs. slice_index hs c.args.file) c.as_slice.ensures.value
-    ∙ home_is s.servers s.chunk s.files.items s.file_families.items s.items.items s.dumps.items
+    ∙ home_is s.servers s.chunk s.policy s.files.items s.file_families.items s.items.items s.dumps.items
     s.families.items c.args.file one
     (omega (arith, c.requires)) in
     let families : length (map block_of s.families.items) ≡ length c.args.self.now.families =
     ap (λ (v : Script). length v.families) c.self.view_is in
-    let some = has_main s.servers s.chunk s.files.items s.file_families.items s.items.items s.dumps.items
+    let some = has_main s.servers s.chunk s.policy s.files.items s.file_families.items s.items.items s.dumps.items
     s.families.items one in
     omega (arith, length-map s.families.items block_of)

@@ -2,7 +2,7 @@ use Rattle.std.proofs.Common.{◌++◌, ◌∷◌, [], ◌∙◌, ap, List}
 use Rattle.mf_lines.specs.declared.parts.Command.{Command}
 use Rattle.mf_lines.specs.Meaning.{client_with}
 use Rattle.mf_lines.proofs.ListLemmas.{put_back}
-use Rattle.mf_lines.proofs.draft.with_command.Goals as goal
+use Rattle.mf_lines.proofs.draft.clients_with.Goals as goal
 
 pub returns : goal.returns
 returns c =

@@ -32,14 +32,14 @@ use Rattle.mf_lines.specs.Words.{◌>>=◌, refuse, word_of, content_word_of, no
 use Rattle.mf_lines.specs.Words.{number_in, spelled, small, three_words}
 use Rattle.mf_shape.specs.declared.Stage.{Stage}
 use Rattle.std.specs.List.{list_any}
-use Rattle.mf_lines.specs.Meaning.{SoFar, Script, so_before, so_with, so_of, with_line, with_form, on_last, with_client}
-use Rattle.mf_lines.specs.Meaning.{client_with, with_command, names_in, last_clients, first_word}
+use Rattle.mf_lines.specs.Meaning.{SoFar, Script, so_before, so_with, so_of, with_line, with_form, on_last, with_client, clients_with}
+use Rattle.mf_lines.specs.Meaning.{client_with, with_command, names_in, phases_in, first_word, main_of}
 use Rattle.mf_lines.specs.Lines.{is_above, numbers_in, points_in, points_form, stage_form, within, chunk_form}
 use Rattle.mf_lines.specs.Lines.{has_name, content_in, content_length, starts_high}
 use Rattle.mf_lines.specs.Lines.{command_fits, server_operand, away_words, servers_in, away_operands, file_number}
 use Rattle.mf_places.specs.declared.servers.Servers.{Servers}
 use Rattle.mf_lines.specs.Lines.{file_limits, file_form, file_operand, act_in, form_in, may_follow_command, may_follow}
-use Rattle.mf_lines.specs.Lines.{later_form, placed, form_at}
+use Rattle.mf_lines.specs.Lines.{later_form, placed, form_at, are_thresholds, policy_form, tick_form, sweep_operand}
 use Rattle.mf_lines.specs.Names.{is_name}
 use Rattle.mf_text.specs.Words.{words_of}
 use Rattle.mf_text.specs.Lines.{lines_of, is_clean}
@@ -91,8 +91,8 @@ record NewFile (so : SoFar) (file : FileLine) : Type 0 where
 Local : SoFar → Form → Type 0
 Local so (says.Chunk n) = (1 ≤ n) × (n ≤ 65536)
 Local so (says.File file) = NewFile so file
-Local so says.Phase = length so.script.items < 64
-Local so says.Client = length (last_clients so.script.items) < 1
+Local so says.Phase = so.phases < 64
+Local so says.Client = so.clients < 1
 Local so (says.Command act) = so.commands < 1024
 Local so form = Unit {0}
 
@@ -165,6 +165,12 @@ away_few so ws two e =
     let few = kept (list_any (is_above 4294967295) c.value) limit.Number rest d.value d.is in
     leb-false 1024 so.commands (kept (leb 1024 so.commands) limit.Commands [] d.value few.1).0
 
+sweep_few : (so : SoFar) (ws : List (List ℕ)) (u : Unit {0}) → sweep_operand so ws ≡ Ok u → so.commands < 1024
+sweep_few so ws u e =
+    let a = bound (no_words ws) _ u e in
+    let b = bound (command_fits so) _ u a.next in
+    fits_few so b.value b.is
+
 act_few : (so : SoFar) (v : Verb) (ws : List (List ℕ)) (read : Act) → act_in so v ws ≡ Ok read → so.commands < 1024
 act_few so verb.Lose ws read e =
     let a = bound (server_operand so ws) (λ server. Ok (act.Lose server)) read e in server_few so ws a.value a.is
@@ -176,6 +182,7 @@ act_few so verb.Convert ws read e = let a = bound (away_operands so ws) _ read e
 act_few so verb.Reclaim ws read e = let a = bound (file_operand so ws) _ read e in operand_few so ws a.value a.is
 act_few so verb.Hold ws read e = let a = bound (file_operand so ws) _ read e in operand_few so ws a.value a.is
 act_few so verb.Release ws read e = let a = bound (file_operand so ws) _ read e in operand_few so ws a.value a.is
+act_few so verb.Sweep ws read e = let a = bound (sweep_operand so ws) _ read e in sweep_few so ws a.value a.is
 act_few so verb.Remove ws read e = let a = bound (file_operand so ws) _ read e in operand_few so ws a.value a.is
 
 points_local : (so : SoFar) (ws : List (List ℕ)) (form : Form) → points_form ws ≡ Ok form → Local so form
@@ -205,6 +212,25 @@ stage_local so ws form e =
     let stage : Stage = record { width = small_k.value; parities = small_r.value; copies = small_c.value } in
     let is : says.Stage stage ≡ form = let n = small_c.next in cc in subst (Local so) is tt
 
+policy_local : (so : SoFar) (ws : List (List ℕ)) (form : Form) → policy_form so ws ≡ Ok form → Local so form
+unfolding Local
+policy_local so ws form e =
+    let stages = (main_of so.script).stages in
+    let a = bound (refuse (length stages == 0) kind.Arity) _ form e in
+    let b = bound (refuse (not (length ws == length stages)) kind.Arity) _ form a.next in
+    let c = bound (numbers_in ws) _ form b.next in
+    let d = bound (within ((list_any (is_above 1000000000) c.value, limit.Tick) ∷ [])) _ form c.next in
+    let f = bound (refuse (not (are_thresholds c.value)) kind.Order) (λ _. Ok (says.Policy c.value)) form d.next in
+    let is : says.Policy c.value ≡ form = let n = f.next in cc in subst (Local so) is tt
+
+tick_local : (so : SoFar) (ws : List (List ℕ)) (form : Form) → tick_form ws ≡ Ok form → Local so form
+unfolding Local
+tick_local so ws form e =
+    let a = bound (one_word ws) _ form e in
+    let b = bound (spelled a.value) _ form a.next in
+    let c = bound (within ((ltb 1000000000 b.value, limit.Tick) ∷ [])) (λ _. Ok (says.Tick b.value)) form b.next in
+    let is : says.Tick b.value ≡ form = let n = c.next in cc in subst (Local so) is tt
+
 local : (so : SoFar) (first : LineWord) (ws : List (List ℕ)) (form : Form) → form_in so first ws ≡ Ok form
     → Local so form
 unfolding Local
@@ -221,17 +247,17 @@ local so word.Stage ws form e = stage_local so ws form e
 local so word.File ws form e = file_local so ws form e
 local so word.Phase ws form e =
     let a = bound (no_words ws) _ form e in
-    let b = bound (within ((leb 64 (length so.script.items), limit.Phases) ∷ [])) (λ _. Ok says.Phase) form a.next in
+    let b = bound (within ((leb 64 so.phases, limit.Phases) ∷ [])) (λ _. Ok says.Phase) form a.next in
     let is : says.Phase ≡ form = let n = b.next in cc in
-    subst (Local so) is
-    (leb-false 64 (length so.script.items) (kept (leb 64 (length so.script.items)) limit.Phases [] b.value b.is).0)
+    subst (Local so) is (leb-false 64 so.phases (kept (leb 64 so.phases) limit.Phases [] b.value b.is).0)
+local so word.Policy ws form e = policy_local so ws form e
+local so word.Tick ws form e = tick_local so ws form e
 local so word.Client ws form e =
-    let few = leb 1 (length (last_clients so.script.items)) in
+    let few = leb 1 so.clients in
     let a = bound (refuse few kind.Unknown) _ form e in
     let b = bound (no_words ws) (λ _. Ok says.Client) form a.next in
     let is : says.Client ≡ form = let n = b.next in cc in
-    subst (Local so) is
-    (leb-false 1 (length (last_clients so.script.items)) (not_refused few kind.Unknown a.value a.is))
+    subst (Local so) is (leb-false 1 so.clients (not_refused few kind.Unknown a.value a.is))
 local so (word.Command v) ws form e =
     let a = bound (act_in so v ws) (λ act. Ok (says.Command act)) form e in
     let is : says.Command a.value ≡ form = let n = a.next in cc in
@@ -286,8 +312,9 @@ stands so line form e =
 
 -- ---- lists of items
 
--- the item is a phase of one client
+-- the item is a phase of one client, if it is a phase
 unfoldable pub IsSingle : Item → Type 0
+IsSingle (item.Tick ticks) = Unit {0}
 IsSingle (item.Phase clients) = length clients ≡ 1
 
 unfoldable pub Singles : List Item → Type 0
@@ -297,6 +324,7 @@ Singles (x ∷ xs) = IsSingle x × Singles xs
 -- so are all but the last, which has no client yet
 Open : List Item → Type 0
 Open [] = ⊥
+Open (item.Tick ticks ∷ []) = ⊥
 Open (item.Phase clients ∷ []) = clients ≡ []
 Open (x ∷ y ∷ xs) = IsSingle x × Open (y ∷ xs)
 
@@ -311,22 +339,22 @@ phase_added [] h = refl
 phase_added (x ∷ []) h = (h.0, refl)
 phase_added (x ∷ y ∷ xs) h = (h.0, phase_added (y ∷ xs) h.1)
 
+tick_added : (ticks : ℕ) (items : List Item) → Singles items → Singles (items ++ item.Tick ticks ∷ [])
+unfolding Singles IsSingle
+tick_added ticks [] h = (tt, tt)
+tick_added ticks (x ∷ xs) h = (h.0, tick_added ticks xs h.1)
+
 client_added : (items : List Item) → Open items → Singles (on_last with_client items)
 unfolding Open Singles IsSingle
 client_added [] h = absurd h
+client_added (item.Tick ticks ∷ []) h = absurd h
 client_added (item.Phase clients ∷ []) h =
     (ap (λ cs. length (cs ++ record { commands = [] } ∷ [])) h, tt)
 client_added (x ∷ y ∷ xs) h = (h.0, client_added (y ∷ xs) h.1)
 
--- a phase that has a client takes no other
-no_client : (items : List Item) → Singles items → length (last_clients items) < 1 → Singles (on_last with_client items)
-unfolding Singles IsSingle
-no_client [] h few = tt
-no_client (item.Phase clients ∷ []) h few = absurd (omega (arith, h.0, few))
-no_client (x ∷ y ∷ xs) h few = (h.0, no_client (y ∷ xs) h.1 few)
-
 one_changed : (c : Command) (x : Item) → IsSingle x → IsSingle (with_command c x)
 unfolding IsSingle
+one_changed c (item.Tick ticks) h = tt
 one_changed c (item.Phase clients) h = length-on_last (client_with c) clients ∙ h
 
 command_added : (c : Command) (items : List Item) → Singles items → Singles (on_last (with_command c) items)
@@ -342,6 +370,7 @@ in_clients [] = 0
 in_clients (c ∷ cs) = length c.commands + in_clients cs
 
 unfoldable pub in_item : Item → ℕ
+in_item (item.Tick ticks) = 0
 in_item (item.Phase clients) = in_clients clients
 
 unfoldable pub in_items : List Item → ℕ
@@ -361,10 +390,12 @@ in_clients-client (x ∷ xs) = ap (λ n. length x.commands + n) (in_clients-clie
 
 in_item-command : (c : Command) (x : Item) → in_item (with_command c x) ≤ in_item x + 1
 unfolding in_item
+in_item-command c (item.Tick ticks) = omega arith
 in_item-command c (item.Phase clients) = in_clients-command c clients
 
 in_item-client : (x : Item) → in_item (with_client x) ≡ in_item x
 unfolding in_item
+in_item-client (item.Tick ticks) = refl
 in_item-client (item.Phase clients) = in_clients-client clients
 
 in_items-command : (c : Command) (items : List Item) → in_items (on_last (with_command c) items) ≤ in_items items + 1
@@ -383,6 +414,38 @@ in_items-phase : (items : List Item) → in_items (items ++ item.Phase [] ∷ []
 unfolding in_items in_item in_clients
 in_items-phase [] = refl
 in_items-phase (x ∷ xs) = ap (λ n. in_item x + n) (in_items-phase xs)
+
+in_items-tick : (ticks : ℕ) (items : List Item) → in_items (items ++ item.Tick ticks ∷ []) ≡ in_items items
+unfolding in_items in_item
+in_items-tick ticks [] = refl
+in_items-tick ticks (x ∷ xs) = ap (λ n. in_item x + n) (in_items-tick ticks xs)
+
+-- ---- how many phases there are
+
+phases-tick : (ticks : ℕ) (items : List Item) → phases_in (items ++ item.Tick ticks ∷ []) ≡ phases_in items
+phases-tick ticks [] = refl
+phases-tick ticks (item.Tick n ∷ xs) = phases-tick ticks xs
+phases-tick ticks (item.Phase cs ∷ xs) = ap (λ ps. cs ∷ ps) (phases-tick ticks xs)
+
+phases-phase : (items : List Item) → length (phases_in (items ++ item.Phase [] ∷ [])) ≡ length (phases_in items) + 1
+phases-phase [] = omega arith
+phases-phase (item.Tick n ∷ xs) = phases-phase xs
+phases-phase (item.Phase cs ∷ xs) = omega (arith, phases-phase xs)
+
+phases-client : (items : List Item) → length (phases_in (on_last with_client items)) ≡ length (phases_in items)
+phases-client [] = refl
+phases-client (item.Tick n ∷ []) = refl
+phases-client (item.Phase cs ∷ []) = refl
+phases-client (item.Tick n ∷ y ∷ xs) = phases-client (y ∷ xs)
+phases-client (item.Phase cs ∷ y ∷ xs) = ap suc (phases-client (y ∷ xs))
+
+phases-command : (c : Command) (items : List Item)
+    → length (phases_in (on_last (with_command c) items)) ≡ length (phases_in items)
+phases-command c [] = refl
+phases-command c (item.Tick n ∷ []) = refl
+phases-command c (item.Phase cs ∷ []) = refl
+phases-command c (item.Tick n ∷ y ∷ xs) = phases-command c (y ∷ xs)
+phases-command c (item.Phase cs ∷ y ∷ xs) = ap suc (phases-command c (y ∷ xs))
 
 -- ---- what is kept line by line
 
@@ -406,39 +469,53 @@ Chunked word.Morph s = s.files ≡ []
 Chunked word.Servers s = s.files ≡ []
 Chunked last s = (1 ≤ s.chunk) × (s.chunk ≤ 65536)
 
-Phased : LineWord → List Item → Type 0
-Phased word.Phase items = Open items
-Phased last items = Singles items
+-- with so many clients since the last phase line
+Phased : LineWord → (clients : ℕ) → List Item → Type 0
+Phased word.Phase clients items = Open items
+Phased word.Client clients items = Singles items × (1 ≤ clients)
+Phased (word.Command verb) clients items = Singles items × (1 ≤ clients)
+Phased last clients items = Singles items
 
-record Kept (last : LineWord) (s : Script) : Type 0 where
+record Kept (last : LineWord) (clients : ℕ) (s : Script) : Type 0 where
   chunk : Chunked last s
   files : FilesFit s.chunk s.files
-  items : Phased last s.items
+  items : Phased last clients s.items
 
-in_client : (so : SoFar) (last : LineWord) (form : Form) → may_follow_command (first_word form) ≡ true → Local so form
+After : SoFar → Form → Type 0
+After so form = Kept (first_word form) (clients_with so form) (with_form so.script (so.lines + 1) form)
+
+in_client : (so : SoFar) (form : Form) → may_follow_command (first_word form) ≡ true → Local so form
     → (1 ≤ so.script.chunk) × (so.script.chunk ≤ 65536) → FilesFit so.script.chunk so.script.files
-    → Singles so.script.items → Kept (first_word form) (with_form so.script (so.lines + 1) form)
-unfolding Local Chunked Phased
-in_client so last says.Client e own chunk files items =
-    record { chunk = chunk; files = files; items = no_client so.script.items items own }
-in_client so last says.Phase e own chunk files items =
-    record { chunk = chunk; files = files; items = phase_added so.script.items items }
-in_client so last (says.Command act) e own chunk files items =
-    record { chunk = chunk; files = files; items = command_added _ so.script.items items }
-in_client so last says.End e own chunk files items = record { chunk = chunk; files = files; items = items }
-in_client so last (says.Dump file) e own chunk files items = record { chunk = chunk; files = files; items = items }
-in_client so last form e own chunk files items = absurd cc
+    → Singles so.script.items × (1 ≤ so.clients) → After so form
+unfolding Local Chunked Phased After
+in_client so says.Client e own chunk files items = absurd (omega (arith, own, items.1))
+in_client so says.Phase e own chunk files items =
+    record { chunk = chunk; files = files; items = phase_added so.script.items items.0 }
+in_client so (says.Tick ticks) e own chunk files items =
+    record { chunk = chunk; files = files; items = tick_added ticks so.script.items items.0 }
+in_client so (says.Command act) e own chunk files items =
+    record { chunk = chunk; files = files; items = (command_added _ so.script.items items.0, items.1) }
+in_client so says.End e own chunk files items = record { chunk = chunk; files = files; items = items.0 }
+in_client so (says.Dump file) e own chunk files items = record { chunk = chunk; files = files; items = items.0 }
+in_client so form e own chunk files items = absurd cc
 
 kept_more : (so : SoFar) (last : LineWord) (form : Form) → may_follow last (first_word form) ≡ true → Local so form
-    → Kept last so.script → Kept (first_word form) (with_form so.script (so.lines + 1) form)
-unfolding may_follow Local Chunked Phased
+    → Kept last so.clients so.script → After so form
+unfolding may_follow Local Chunked Phased After
 kept_more so word.Morph (says.Servers x) e own h = record { chunk = h.chunk; files = h.files; items = h.items }
 kept_more so word.Servers (says.Chunk x) e own h =
     record { chunk = own; files = no_files_fit x so.script.files h.chunk; items = h.items }
 kept_more so word.Chunk (says.Points x) e own h = record { chunk = h.chunk; files = h.files; items = h.items }
 kept_more so word.Points (says.Stage x) e own h = record { chunk = h.chunk; files = h.files; items = h.items }
 kept_more so word.Stage (says.Stage x) e own h = record { chunk = h.chunk; files = h.files; items = h.items }
+kept_more so word.Stage (says.Policy x) e own h = record { chunk = h.chunk; files = h.files; items = h.items }
 kept_more so word.Stage (says.File f) e own h =
+    record {
+      chunk = h.chunk;
+      files = files_fit so.script.chunk so.script.files f h.files (own.fits h.chunk.0);
+      items = h.items;
+    }
+kept_more so word.Policy (says.File f) e own h =
     record {
       chunk = h.chunk;
       files = files_fit so.script.chunk so.script.files f h.files (own.fits h.chunk.0);
@@ -450,21 +527,30 @@ kept_more so word.File (says.File f) e own h =
       files = files_fit so.script.chunk so.script.files f h.files (own.fits h.chunk.0);
       items = h.items;
     }
+kept_more so word.File (says.Tick ticks) e own h =
+    record { chunk = h.chunk; files = h.files; items = tick_added ticks so.script.items h.items }
 kept_more so word.File says.Phase e own h =
     record { chunk = h.chunk; files = h.files; items = phase_added so.script.items h.items }
 kept_more so word.File says.End e own h = record { chunk = h.chunk; files = h.files; items = h.items }
 kept_more so word.File (says.Dump file) e own h = record { chunk = h.chunk; files = h.files; items = h.items }
+kept_more so word.Tick (says.Tick ticks) e own h =
+    record { chunk = h.chunk; files = h.files; items = tick_added ticks so.script.items h.items }
+kept_more so word.Tick says.Phase e own h =
+    record { chunk = h.chunk; files = h.files; items = phase_added so.script.items h.items }
+kept_more so word.Tick says.End e own h = record { chunk = h.chunk; files = h.files; items = h.items }
+kept_more so word.Tick (says.Dump file) e own h = record { chunk = h.chunk; files = h.files; items = h.items }
 kept_more so word.Dump (says.Dump file) e own h = record { chunk = h.chunk; files = h.files; items = h.items }
 kept_more so word.Dump says.End e own h = record { chunk = h.chunk; files = h.files; items = h.items }
 kept_more so word.Phase says.Client e own h =
-    record { chunk = h.chunk; files = h.files; items = client_added so.script.items h.items }
-kept_more so word.Client form e own h = in_client so word.Client form e own h.chunk h.files h.items
-kept_more so (word.Command verb) form e own h = in_client so (word.Command verb) form e own h.chunk h.files h.items
+    record { chunk = h.chunk; files = h.files; items = (client_added so.script.items h.items, omega arith) }
+kept_more so word.Client form e own h = in_client so form e own h.chunk h.files h.items
+kept_more so (word.Command verb) form e own h = in_client so form e own h.chunk h.files h.items
 kept_more so last form e own h = absurd cc
 
 record Counts (so : SoFar) : Type 0 where
   files : length so.script.files ≤ 64
-  phases : length so.script.items ≤ 64
+  counted_phases : length (phases_in so.script.items) ≡ so.phases
+  phases : so.phases ≤ 64
   counted : in_items so.script.items ≤ so.commands
   commands : so.commands ≤ 1024
 
@@ -472,19 +558,29 @@ counts_more : (so : SoFar) (form : Form) → Local so form → Counts so → Cou
 unfolding Local
 counts_more so (says.File f) own h = record {
   files = omega (arith, own.few, length-append so.script.files (f ∷ []));
+  counted_phases = h.counted_phases;
   phases = h.phases;
   counted = h.counted;
   commands = h.commands;
 }
+counts_more so (says.Tick ticks) own h = record {
+  files = h.files;
+  counted_phases = ap length (phases-tick ticks so.script.items) ∙ h.counted_phases;
+  phases = h.phases;
+  counted = subst (λ n. n ≤ so.commands) (sym (in_items-tick ticks so.script.items)) h.counted;
+  commands = h.commands;
+}
 counts_more so says.Phase own h = record {
   files = h.files;
-  phases = omega (arith, own, length-append so.script.items (item.Phase [] ∷ []));
+  counted_phases = phases-phase so.script.items ∙ ap (λ n. n + 1) h.counted_phases;
+  phases = omega (arith, own);
   counted = subst (λ n. n ≤ so.commands) (sym (in_items-phase so.script.items)) h.counted;
   commands = h.commands;
 }
 counts_more so says.Client own h = record {
   files = h.files;
-  phases = subst (λ n. n ≤ 64) (sym (length-on_last with_client so.script.items)) h.phases;
+  counted_phases = phases-client so.script.items ∙ h.counted_phases;
+  phases = h.phases;
   counted = subst (λ n. n ≤ so.commands) (sym (in_items-client so.script.items)) h.counted;
   commands = h.commands;
 }
@@ -492,37 +588,43 @@ counts_more so (says.Command act) own h =
     let c : Command = record { line = so.lines + 1; act = act } in
     record {
       files = h.files;
-      phases = subst (λ n. n ≤ 64) (sym (length-on_last (with_command c) so.script.items)) h.phases;
+      counted_phases = phases-command c so.script.items ∙ h.counted_phases;
+      phases = h.phases;
       counted = omega (arith, in_items-command c so.script.items, h.counted);
       commands = omega (arith, own);
     }
 counts_more so form own h =
-    record { files = h.files; phases = h.phases; counted = h.counted; commands = h.commands }
+    record {
+      files = h.files;
+      counted_phases = h.counted_phases;
+      phases = h.phases;
+      counted = h.counted;
+      commands = h.commands;
+    }
 
 -- before the first line, and behind lines
-KeptAt : Option LineWord → Script → Type 0
-KeptAt None s = (s.files ≡ []) × (s.items ≡ [])
-KeptAt (Some last) s = Kept last s
+KeptAt : Option LineWord → (clients : ℕ) → Script → Type 0
+KeptAt None clients s = (s.files ≡ []) × (s.items ≡ [])
+KeptAt (Some last) clients s = Kept last clients s
 
-kept_line : (so : SoFar) (form : Form) → Stands so form → KeptAt so.last so.script
-    → Kept (first_word form) (with_form so.script (so.lines + 1) form)
-unfolding KeptAt Chunked Phased Singles
+kept_line : (so : SoFar) (form : Form) → Stands so form → KeptAt so.last so.clients so.script → After so form
+unfolding KeptAt Chunked Phased Singles After
 kept_line so form is h =
     elim is.place [
       | inl first ↦
-          let start = subst (λ l. KeptAt l so.script) first.0 h in
-          subst (λ f. Kept (first_word f) (with_form so.script (so.lines + 1) f)) (sym first.1) (record {
+          let start = subst (λ l. KeptAt l so.clients so.script) first.0 h in
+          subst (After so) (sym first.1) (record {
             chunk = start.0;
             files = no_files_fit so.script.chunk so.script.files start.0;
             items = subst Singles (sym start.1) tt;
           })
-      | inr (last, was, follows) ↦ kept_more so last form follows is.alone (subst (λ l. KeptAt l so.script) was h)
+      | inr (last, was, follows) ↦ kept_more so last form follows is.alone (subst (λ l. KeptAt l so.clients so.script) was h)
     ]
 
 kept_lines : (so : SoFar) (lines : List (List ℕ)) (forms : List Form) → MakeForms so lines forms
-    → KeptAt so.last so.script → Counts so → KeptAt (so_with so forms).last (so_with so forms).script × Counts
-    (so_with so forms)
-unfolding KeptAt
+    → KeptAt so.last so.clients so.script → Counts so
+    → KeptAt (so_with so forms).last (so_with so forms).clients (so_with so forms).script × Counts (so_with so forms)
+unfolding KeptAt After
 kept_lines so [] [] made h n = (h, n)
 kept_lines so [] (form ∷ forms) made h n = absurd made
 kept_lines so (line ∷ lines) [] made h n = absurd made
@@ -537,7 +639,7 @@ pub record Limits (s : Script) : Type 0 where
   pub files : length s.files ≤ 64
   pub each : FilesFit s.chunk s.files
   pub single : Singles s.items
-  pub phases : length s.items ≤ 64
+  pub phases : length (phases_in s.items) ≤ 64
   pub commands : in_items s.items ≤ 1024
 
 pub limits : (text : List ℕ) (s : Script) → IsScript text s → Limits s
@@ -545,14 +647,20 @@ unfolding KeptAt Chunked Phased so_of in_items
 limits text s is =
     let so = so_of is.forms in
     let all = kept_lines so_before (lines_of text) is.forms is.lines.lines (refl, refl)
-    (record { files = omega arith; phases = omega arith; counted = omega arith; commands = omega arith }) in
-    let ended = subst (λ l. KeptAt l so.script) is.lines.ended all.0 in
+    (record {
+      files = omega arith;
+      counted_phases = refl;
+      phases = omega arith;
+      counted = omega arith;
+      commands = omega arith;
+    }) in
+    let ended = subst (λ l. KeptAt l so.clients so.script) is.lines.ended all.0 in
     subst Limits (sym is.says) (record {
       chunk = ended.chunk;
       files = all.1.files;
       each = ended.files;
       single = ended.items;
-      phases = all.1.phases;
+      phases = omega (arith, all.1.counted_phases, all.1.phases);
       commands = omega (arith, all.1.counted, all.1.commands);
     })
 

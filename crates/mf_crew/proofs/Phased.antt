@@ -13,8 +13,9 @@ use Rattle.mf_lines.specs.declared.parts.Content.TheVariants as given
 use Rattle.mf_lines.specs.declared.parts.FileLine.{FileLine}
 use Rattle.mf_lines.specs.declared.parts.Item.{Item}
 use Rattle.mf_lines.specs.declared.parts.Item.TheVariants as item
-use Rattle.mf_lines.specs.Meaning.{Script}
+use Rattle.mf_lines.specs.Meaning.{Script, phases_in}
 use Rattle.mf_script.specs.Losses.{losses_of}
+use Rattle.mf_script.specs.Phases.{clients_of}
 use Rattle.mf_script.specs.Scripts.{IsScript}
 use Rattle.mf_vault.specs.Facts.{Facts}
 use Rattle.mf_vault.specs.Actor.{Actor}
@@ -24,7 +25,7 @@ use Rattle.mf_plain.specs.declared.access.PlainAccess.{PlainAccess}
 use Rattle.mf_plain.specs.Alone.{first_actor, rested}
 use Rattle.mf_plain.specs.Whole.{actor_of}
 use Rattle.mf_client.specs.declared.done.Done.{Done}
-use Rattle.mf_client.specs.Clients.{HasClient, phases_in, clients_of, IsFileOf, AreFiles, facts_in}
+use Rattle.mf_client.specs.Clients.{HasClient, IsFileOf, AreFiles, facts_in}
 use Rattle.mf_client.specs.Runs.{Runs}
 use Rattle.mf_crew.specs.Files.{HasPhase, book_of, RestsBy, AllRestBy, left_by}
 use Rattle.mf_crew.specs.Alone.{first_actors, RunsPhase}
@@ -172,6 +173,7 @@ pub one_client : (items : List Item) (k : ℕ) → Singles items → k < length 
     → length (get_or (phases_in items) k []) ≡ 1
 unfolding Singles IsSingle
 one_client [] k h within = absurd (omega (arith, within))
+one_client (item.Tick ticks ∷ items) k h within = one_client items k h.1 within
 one_client (item.Phase clients ∷ items) zero h within = h.0
 one_client (item.Phase clients ∷ items) (suc k) h within = one_client items k h.1 (omega (arith, within))
 

@@ -6,7 +6,7 @@ use Rattle.mf_vault.specs.Actor.{Actor}
 use Rattle.mf_plain.specs.Resting.{Resting}
 use Rattle.mf_plain.specs.Alone.{first_actor}
 use Rattle.mf_client.specs.declared.done.Done.{Done}
-use Rattle.mf_client.specs.Clients.{clients_of}
+use Rattle.mf_script.specs.Phases.{clients_of}
 use Rattle.mf_client.specs.Runs.{Runs}
 use Rattle.mf_crew.specs.Files.{left_by}
 

@@ -3,13 +3,13 @@ use Rattle.std.specs.Prelude.{◌≡◌, ℕ, ◌≤◌, List, length, take, sli
 use Rattle.std.specs.Option.{option_map}
 use Rattle.mf_places.specs.Facts.{BookFacts}
 use Rattle.mf_lines.specs.declared.parts.FileLine.{FileLine}
-use Rattle.mf_lines.specs.Meaning.{Script}
+use Rattle.mf_lines.specs.Meaning.{Script, phases_in}
 use Rattle.mf_script.specs.Contents.{bytes_in}
 use Rattle.mf_script.specs.Losses.{losses_of}
 use Rattle.mf_vault.specs.Actor.{Actor}
 use Rattle.mf_plain.specs.Resting.{Resting}
 use Rattle.mf_plain.specs.Alone.{rested}
-use Rattle.mf_client.specs.Clients.{family_of, phases_in}
+use Rattle.mf_client.specs.Clients.{family_of}
 
 -- the script has this phase; phases are numbered from 1
 abbrev pub HasPhase : Script → (phase : ℕ) → Type 0

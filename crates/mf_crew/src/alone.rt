@@ -2,7 +2,7 @@
 
 ghost use Rattle.std.specs.Prelude.{◌≡◌, ◌≤◌, length, map, take, All, IfOk, Some};
 ghost use Rattle.mf_client.specs.declared.done.Done.{Done};
-ghost use Rattle.mf_client.specs.Clients.{clients_of};
+ghost use Rattle.mf_script.specs.Phases.{clients_of};
 ghost use Rattle.mf_client.specs.Runs.{IsSmall};
 ghost use Rattle.mf_plain.specs.Alone.{first_actor};
 ghost use Rattle.mf_plain.specs.Resting.{Resting};

@@ -8,6 +8,7 @@ use Rattle.std.proofs.lemmas.List.Elements.{All-nil, All-cons, All-head, All-tai
 use Rattle.mf_lines.specs.declared.parts.ScriptFault.{ScriptFault}
 use Rattle.mf_lines.specs.Meaning.{Script, main_of}
 use Rattle.mf_script.specs.Losses.{losses_of}
+use Rattle.mf_script.specs.Phases.{ticks_before}
 use Rattle.mf_script.specs.Scripts.{IsScript}
 use Rattle.mf_script.specs.Faults.{IsFault, IsScriptFault}
 use Rattle.mf_plain.specs.Resting.{Resting}
@@ -84,8 +85,9 @@ runs_once s (suc n) ds es one other a b had_a had_b =
     let all_b = subst (All HadMemory) b.5 had_b in
     let front = runs_once s n a.0 b.0 a.2 b.2 a.3 b.3 (all_front HadMemory a.0 a.1 all_a)
     (all_front HadMemory b.0 b.1 all_b) in
-    let mine : RunsPhase s (suc n) 0 b.2 a.1 one = subst (λ files. RunsPhase s (suc n) 0 files a.1 one) front.1 a.4 in
-    let last = phase_once s (suc n) 0 b.2 one other a.1 b.1 mine b.4 (all_behind HadMemory a.0 a.1 all_a)
+    let now = ticks_before s (suc n) in
+    let mine : RunsPhase s (suc n) now b.2 a.1 one = subst (λ files. RunsPhase s (suc n) now files a.1 one) front.1 a.4 in
+    let last = phase_once s (suc n) now b.2 one other a.1 b.1 mine b.4 (all_behind HadMemory a.0 a.1 all_a)
     (all_behind HadMemory b.0 b.1 all_b) in
     (a.5 ∙ (λ i. front.0 i ++ last.0 i) ∙ sym b.5, last.1)
 

@@ -13,12 +13,13 @@ use Rattle.mf_lines.specs.declared.parts.Client.{Client}
 use Rattle.mf_lines.specs.declared.parts.FileLine.{FileLine}
 use Rattle.mf_lines.specs.declared.parts.Item.{Item}
 use Rattle.mf_lines.specs.declared.parts.Item.TheVariants as item
-use Rattle.mf_lines.specs.Meaning.{Script}
-use Rattle.mf_script.specs.Losses.{losses_of, item_losses}
+use Rattle.mf_lines.specs.Meaning.{Script, phases_in}
+use Rattle.mf_script.specs.Losses.{losses_of, phase_losses}
+use Rattle.mf_script.specs.Phases.{clients_of, ticks_ahead, ticks_before}
 use Rattle.mf_vault.specs.Actor.{Actor}
 use Rattle.mf_plain.specs.Resting.{Resting, AtRest}
 use Rattle.mf_client.specs.declared.done.Done.{Done}
-use Rattle.mf_client.specs.Clients.{phases_in, clients_of, commands_of}
+use Rattle.mf_client.specs.Clients.{commands_of}
 use Rattle.mf_client.specs.Runs.{RunsFrom}
 use Rattle.mf_crew.specs.Files.{HasPhase, RestsBy, AllRestBy}
 use Rattle.mf_crew.specs.Alone.{first_actors, RunsPhase}
@@ -71,13 +72,13 @@ new_next s n xs line files plain new are within at so_far one pushed =
     ∙ sym (new_more s 0 n (take n s.files) line (omega (arith, length-take n s.files)))
     ∙ ap (new_from s 0) (sym taken ∙ ap (λ k. take k s.files) next)
 
-pub begins : (s : Script) → AllRestBy s 0 0 (new_files s)
-begins s = record {
+pub begins : (s : Script) (now : ℕ) → AllRestBy s 0 now (new_files s)
+begins s now = record {
   count = new_length s 0 s.files;
   each = λ n line r at is.
       let here : 0 + n ≡ n = omega arith in
       let new : r ≡ new_file s n line = new_at s 0 n s.files line r at is ∙ ap (λ j. new_file s j line) here in
-      subst (RestsBy s 0 0 n line) (sym new)
+      subst (RestsBy s 0 now n line) (sym new)
       (record { book = refl; bytes = refl; losses = refl; born = omega arith });
 }
 
@@ -86,11 +87,20 @@ begins s = record {
 -- the lose lines up to the next phase
 more_losses : (s : Script) (n : ℕ) → (more : List LoseLine) × (losses_of s (suc n) ≡ losses_of s n ++ more)
 more_losses s n =
-    let more = one_more n s.items in (
-      flat_map item_losses more.0,
-      ap (flat_map item_losses) more.1
-          ∙ flat_map-append item_losses (take n s.items) more.0,
-    )
+    let ps = phases_in s.items in
+    let more = one_more n ps in
+    (flat_map phase_losses more.0, ap (flat_map phase_losses) more.1 ∙ flat_map-append phase_losses (take n ps) more.0)
+
+-- the ticks only grow
+ahead_grow : (items : List Item) (m k : ℕ) → m ≤ k → ticks_ahead items m ≤ ticks_ahead items k
+ahead_grow [] m k low = omega arith
+ahead_grow (item.Tick n ∷ items) m k low = omega (arith, ahead_grow items m k low)
+ahead_grow (item.Phase cs ∷ items) zero k low = omega arith
+ahead_grow (item.Phase cs ∷ items) (suc m) zero low = absurd (omega (arith, low))
+ahead_grow (item.Phase cs ∷ items) (suc m) (suc k) low = ahead_grow items m k (omega (arith, low))
+
+pub ticks_grow : (s : Script) (n : ℕ) → ticks_before s n ≤ ticks_before s (suc n)
+ticks_grow s n = ahead_grow s.items (n - 1) (suc n - 1) (omega arith)
 
 -- a front of a list is one of a longer list
 front_more : (xs all more : List LoseLine) → take (length xs) all ≡ xs → take (length xs) (all ++ more) ≡ xs
@@ -136,11 +146,14 @@ of_lines s phases now files all are same rest =
 pub phases_pushed : (items : List Item) (x : Item) → length (phases_in (items ++ x ∷ []))
     ≡ length (phases_in items) + length (phases_in (x ∷ []))
 phases_pushed [] x = omega arith
+phases_pushed (item.Tick n ∷ items) x = phases_pushed items x
 phases_pushed (item.Phase clients ∷ items) x = omega (arith, phases_pushed items x)
 
-pub few_phases : (items : List Item) → length (phases_in items) ≤ length items
-few_phases [] = omega arith
-few_phases (item.Phase clients ∷ items) = omega (arith, few_phases items)
+few_phases : (n : ℕ) (items : List Item) → length (phases_in (take n items)) ≤ length (phases_in items)
+few_phases zero items = omega arith
+few_phases (suc n) [] = omega arith
+few_phases (suc n) (item.Tick t ∷ items) = few_phases n items
+few_phases (suc n) (item.Phase clients ∷ items) = omega (arith, few_phases n items)
 
 in_phases : List (List Client) → ℕ
 in_phases [] = 0
@@ -149,6 +162,7 @@ in_phases (cs ∷ ps) = in_clients cs + in_phases ps
 phases_are : (items : List Item) → in_phases (phases_in items) ≡ in_items items
 unfolding in_phases in_items in_item
 phases_are [] = refl
+phases_are (item.Tick n ∷ items) = omega (arith, phases_are items)
 phases_are (item.Phase clients ∷ items) = ap (λ n. in_clients clients + n) (phases_are items)
 
 in_phases-push : (ps : List (List Client)) (cs : List Client) → in_phases (ps ++ cs ∷ []) ≡ in_phases ps + in_clients cs
@@ -178,7 +192,7 @@ run_few s (suc n) done files h within =
     let phase = h.4 in
     let before = run_few s n h.0 h.2 h.3 (omega (arith, within)) in
     let count : length h.1 ≡ length (commands_of s (suc n) 1) =
-    runs_length s (suc n) 1 1 (commands_of s (suc n) 1) (first_actors s (suc n) 0 h.2) h.1 phase.actors phase.runs in
+    runs_length s (suc n) 1 1 (commands_of s (suc n) 1) (first_actors s (suc n) (ticks_before s (suc n)) h.2) h.1 phase.actors phase.runs in
     let none : Client = record { commands = [] } in
     let back : suc n - 1 ≡ n = omega arith in
     let first = first_client (get_or ps n []) none refl in
@@ -207,14 +221,18 @@ pub has_phase : (s : Script) (n : ℕ) → n < length (phases_in s.items) → Ha
 has_phase s n within = (omega arith, omega (arith, within))
 
 -- one phase more
-pub run_next : (s : Script) (n : ℕ) (P : Done → Type 0) (done more new : List Done) (files mid : List Resting)
-    → RunsTo s n done files → RunsPhase s (n + 1) 0 files more mid → AllRestBy s (n + 1) 0 mid → All P done
-    → All P more → new ≡ done ++ more → RunsTo s (n + 1) new mid × AllRestBy s (n + 1) 0 mid × All P new
-run_next s n P done more new files mid so_far phase are small next_small is =
+pub run_next : (s : Script) (n : ℕ) (P : Done → Type 0) (done more new : List Done) (files mid : List Resting) (now : ℕ)
+    → now ≡ ticks_before s (n + 1) → RunsTo s n done files → RunsPhase s (n + 1) now files more mid
+    → AllRestBy s (n + 1) now mid → All P done → All P more → new ≡ done ++ more
+    → RunsTo s (n + 1) new mid × AllRestBy s (n + 1) (ticks_before s (n + 1)) mid × All P new
+run_next s n P done more new files mid now at so_far phase are small next_small is =
     let next : suc n ≡ n + 1 = omega arith in
-    let mine : RunsPhase s (suc n) 0 files more mid = subst (λ k. RunsPhase s k 0 files more mid) (sym next) phase in (
+    let then : RunsPhase s (n + 1) (ticks_before s (n + 1)) files more mid =
+    subst (λ k. RunsPhase s (n + 1) k files more mid) at phase in
+    let mine : RunsPhase s (suc n) (ticks_before s (suc n)) files more mid =
+    subst (λ k. RunsPhase s k (ticks_before s k) files more mid) (sym next) then in (
       subst (λ k. RunsTo s k new mid) next (done, more, files, so_far, mine, is),
-      are,
+      subst (λ k. AllRestBy s (n + 1) k mid) at are,
       subst (All P) (sym is) (All-append P done more small next_small),
     )
 
@@ -234,7 +252,6 @@ count_next items xs n x count one are within at so_far is =
     ∙ ap (λ l. take n items ++ l ∷ []) (ap (λ l. get_or l n x) (sym are) ∙ sym at) in
     omega (arith, so_far, is, phases_pushed (take n items) x, ap (λ l. length (phases_in l)) taken)
 
-pub count_fits : (items : List Item) (n count : ℕ) → count ≡ length (phases_in (take n items)) → length items ≤ 64
-    → count ≤ 64
-count_fits items n count e few =
-    omega (arith, e, few, few_phases (take n items), length-take n items)
+pub count_fits : (items : List Item) (n count : ℕ) → count ≡ length (phases_in (take n items))
+    → length (phases_in items) ≤ 64 → count ≤ 64
+count_fits items n count e few = omega (arith, e, few, few_phases n items)

@@ -3,7 +3,7 @@
 ghost use Rattle.std.specs.Prelude.{◌≡◌, ◌≤◌, ◌++◌, ◌∷◌, [], length, slice_get};
 ghost use Rattle.std.specs.Prelude.{All, IfOk, OnOk, Some};
 ghost use Rattle.mf_client.specs.declared.done.Done.{Done};
-ghost use Rattle.mf_client.specs.Clients.{phases_in};
+ghost use Rattle.mf_lines.specs.Meaning.{phases_in};
 ghost use Rattle.mf_plain.specs.Resting.{AtRest};
 ghost use Rattle.mf_client.specs.Runs.{IsSmall};
 ghost use Rattle.mf_top.specs.PlainRun.{new_file, new_files, AreOfLines, IsPlainRun};
@@ -35,7 +35,8 @@ pub fn run<R: Threads + Wait + Sync, T: Turnstile>(
     let mut files = new_files(alloc, script)?;
     let mut done = Vec::new(alloc);
     for phase in 0..count_phases(script) {
-        let ran = run_phase(rt, alloc, files, script, phase + 1, 0, turnstile)?;
+        let now = script.ticks_before(phase + 1);
+        let ran = run_phase(rt, alloc, files, script, phase + 1, now, turnstile)?;
         files = ran.files;
         append(&mut done, ran.done)?;
     }
@@ -70,6 +71,7 @@ fn phases_of(item: &Item) -> u32
     ensures count { result ≡ length (phases_in (item.now ∷ [])) }
 {
     match item {
+        Item::Tick(_) => 0,
         Item::Phase(_) => 1,
     }
 }

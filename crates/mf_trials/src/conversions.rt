@@ -251,7 +251,7 @@ static TURNS: [Turn; 17] = [
 ];
 
 // Creates the file.
-fn created<A: Fetch>(alloc: Global, access: &mut A, family: &Family, text: &[u8]) -> Change
+pub fn created<A: Fetch>(alloc: Global, access: &mut A, family: &Family, text: &[u8]) -> Change
     requires idle { IsIdle (A.actor access.old) }
     requires family { IsOfFamily family.now.shape family.now.points
         (A.actor access.old).facts.book }
@@ -263,7 +263,7 @@ fn created<A: Fetch>(alloc: Global, access: &mut A, family: &Family, text: &[u8]
 }
 
 // Converts the file, where it has the stage.
-fn converted<A: Fetch>(
+pub fn converted<A: Fetch>(
     alloc: Global,
     access: &mut A,
     family: &Family,

@@ -24,4 +24,6 @@ mod merges;
 #[cfg(test)]
 mod plain;
 #[cfg(test)]
+mod sharing;
+#[cfg(test)]
 mod stores;

@@ -4,7 +4,7 @@ ghost use Rattle.std.specs.Prelude.{All, IfOk};
 ghost use Rattle.mf_client.specs.declared.done.Done.{Done};
 ghost use Rattle.mf_client.specs.Runs.{IsSmall};
 ghost use Rattle.mf_crew.specs.Files.{HasPhase, AllRestBy};
-ghost use Rattle.mf_crew.specs.Alone.{RunsPhase};
+ghost use Rattle.mf_crew.specs.Live.{IsPhase};
 
 use crate::alone::run_alone;
 use mf_client::{Done, Turnstile};
@@ -40,7 +40,7 @@ pub fn run_phase<R: Threads + Wait + Sync, T: Turnstile>(
     requires phase { HasPhase script.now phase }
     requires rest { AllRestBy script.now phase now files.items }
     ensures runs { IfOk result (λ ran.
-        RunsPhase script.now phase now files.items ran.done.items ran.files.items) }
+        IsPhase script.now phase now files.items ran.done.items ran.files.items) }
     ensures rest { IfOk result (λ ran. AllRestBy script.now phase now ran.files.items) }
     ensures small { IfOk result (λ ran. All (λ (d : Done). IsSmall d.io) ran.done.items) }
 {

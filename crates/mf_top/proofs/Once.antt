@@ -1,14 +1,14 @@
 -- A script has one plain run, words and a text have one answer, and a call ends well where nothing fails.
 use Rattle.std.proofs.Common.{◌≡◌, ◌≢◌, ℕ, zero, suc, ◌⊎◌, inl, inr, Bool, false, List, [], ◌∷◌, ◌++◌, map}
-use Rattle.std.proofs.Common.{Option, Some, All, refl, sym, ap, ◌∙◌, subst}
+use Rattle.std.proofs.Common.{◌≤◌, length, Option, Some, All, refl, sym, ap, ◌∙◌, subst, arith}
 use Rattle.std.specs.Prelude.{IfSome}
 use Rattle.std.specs.List.{list_any}
 use Rattle.std.proofs.lemmas.Bool.{or_parts}
 use Rattle.std.proofs.lemmas.List.Elements.{All-nil, All-cons, All-head, All-tail, All-map, All-from_get_or}
 use Rattle.mf_lines.specs.declared.parts.ScriptFault.{ScriptFault}
-use Rattle.mf_lines.specs.Meaning.{Script, main_of}
+use Rattle.mf_lines.specs.Meaning.{Script, main_of, phases_in}
 use Rattle.mf_script.specs.Losses.{losses_of}
-use Rattle.mf_script.specs.Phases.{ticks_before}
+use Rattle.mf_script.specs.Phases.{clients_of, ticks_before}
 use Rattle.mf_script.specs.Scripts.{IsScript}
 use Rattle.mf_script.specs.Faults.{IsFault, IsScriptFault}
 use Rattle.mf_plain.specs.Resting.{Resting}
@@ -23,11 +23,12 @@ use Rattle.mf_report.specs.Report.{report_text}
 use Rattle.mf_report.specs.Verdicts.{accepted_text, refused_text, words_refusal}
 use Rattle.mf_crew.specs.Files.{left_by}
 use Rattle.mf_crew.specs.Alone.{first_actors, RunsPhase}
+use Rattle.mf_crew.specs.Live.{IsPhase}
 use Rattle.mf_top.specs.PlainRun.{new_file, RunsTo, IsPlainRun}
 use Rattle.mf_top.specs.Answers.{task_words, AsksNothing, IsRefused, IsRun, IsAnswer}
 use Rattle.mf_top.specs.Answers.{reported, lacked, accepted, refused, no_words}
 use Rattle.mf_top.specs.Ends.{Call, Ends}
-use Rattle.mf_top.specs.Laws.{RefusesAlike, OneAnswer, NothingFailed, Completes}
+use Rattle.mf_top.specs.Laws.{RefusesAlike, IsPlain, OneAnswer, NothingFailed, Completes}
 use Rattle.mf_top.specs.declared.Task.{Task}
 use Rattle.mf_top.specs.declared.Task.TheVariants.{Run, Check}
 use Rattle.mf_top.specs.declared.Status.{Status}
@@ -76,18 +77,26 @@ phase_once s p now files one other ds es a b had_a had_b =
     (first_whole s p now files) a.runs b.runs had_a had_b in
     (same.0, somes one other (sym a.rest ∙ ap (map left_by) same.1 ∙ b.rest))
 
-runs_once : (s : Script) (n : ℕ) (ds es : List Done) (one other : List Resting) → RunsTo s n ds one
-    → RunsTo s n es other
-    → All HadMemory ds → All HadMemory es → (ds ≡ es) × (one ≡ other)
-runs_once s zero ds es one other a b had_a had_b = (a.0 ∙ sym b.0, a.1 ∙ sym b.1)
-runs_once s (suc n) ds es one other a b had_a had_b =
+-- a phase of one client is none of several
+one_of : (s : Script) (p now : ℕ) (files new : List Resting) (done : List Done) → length (clients_of s p) ≡ 1
+    → IsPhase s p now files done new → RunsPhase s p now files done new
+one_of s p now files new done one (inl h) = h
+one_of s p now files new done one (inr h) = absurd (omega (arith, one, h.many))
+
+runs_once : (s : Script) (n : ℕ) (ds es : List Done) (one other : List Resting) → IsPlain s
+    → n ≤ length (phases_in s.items) → RunsTo s n ds one → RunsTo s n es other → All HadMemory ds → All HadMemory es
+    → (ds ≡ es) × (one ≡ other)
+runs_once s zero ds es one other plain within a b had_a had_b = (a.0 ∙ sym b.0, a.1 ∙ sym b.1)
+runs_once s (suc n) ds es one other plain within a b had_a had_b =
     let all_a = subst (All HadMemory) a.5 had_a in
     let all_b = subst (All HadMemory) b.5 had_b in
-    let front = runs_once s n a.0 b.0 a.2 b.2 a.3 b.3 (all_front HadMemory a.0 a.1 all_a)
+    let front = runs_once s n a.0 b.0 a.2 b.2 plain (omega (arith, within)) a.3 b.3 (all_front HadMemory a.0 a.1 all_a)
     (all_front HadMemory b.0 b.1 all_b) in
     let now = ticks_before s (suc n) in
-    let mine : RunsPhase s (suc n) now b.2 a.1 one = subst (λ files. RunsPhase s (suc n) now files a.1 one) front.1 a.4 in
-    let last = phase_once s (suc n) now b.2 one other a.1 b.1 mine b.4 (all_behind HadMemory a.0 a.1 all_a)
+    let single = plain (suc n) (omega arith, within) in
+    let mine : IsPhase s (suc n) now b.2 a.1 one = subst (λ files. IsPhase s (suc n) now files a.1 one) front.1 a.4 in
+    let last = phase_once s (suc n) now b.2 one other a.1 b.1 (one_of s (suc n) now b.2 one a.1 single mine)
+    (one_of s (suc n) now b.2 other b.1 single b.4) (all_behind HadMemory a.0 a.1 all_a)
     (all_behind HadMemory b.0 b.1 all_b) in
     (a.5 ∙ (λ i. front.0 i ++ last.0 i) ∙ sym b.5, last.1)
 
@@ -176,15 +185,17 @@ fine : (m : ℕ) (b : Bool) → ((m ≡ 0) × (b ≡ false)) ⊎ (m ≡ 5) → m
 fine m b (inl h) other = h
 fine m b (inr e) other = absurd (other e)
 
-runs_alike : (words : List (List ℕ)) (text : List ℕ) (m n : ℕ) (x y : List ℕ) → Ran words text m x → Ran words text n y
-    → m ≢ 5 → n ≢ 5 → SameAnswer m n x y
+runs_alike : (words : List (List ℕ)) (text : List ℕ) (m n : ℕ) (x y : List ℕ)
+    → ((s : Script) → IsScript text s → IsPlain s) → Ran words text m x → Ran words text n y → m ≢ 5 → n ≢ 5
+    → SameAnswer m n x y
 unfolding SameAnswer
-runs_alike words text m n x y a b one other =
+runs_alike words text m n x y plain a b one other =
     let fine_a = fine m _ a.status one in
     let fine_b = fine n _ b.status other in
     let script : a.script ≡ b.script = scripts_are.script text a.script b.script a.run.script b.run.script in
     let mine : IsPlainRun b.script a.done a.files = subst (λ s. IsPlainRun s a.done a.files) script a.run.run in
-    let same = runs_once b.script _ a.done b.done a.files b.files mine b.run.run (none_lacks a.done fine_a.1)
+    let same = runs_once b.script (length (phases_in b.script.items)) a.done b.done a.files b.files
+    (plain b.script b.run.script) (omega arith) mine b.run.run (none_lacks a.done fine_a.1)
     (none_lacks b.done fine_b.1) in
     (fine_a.0 ∙ sym fine_b.0, inl (a.is ∙ (λ i. report_text (script i) (same.0 i) (same.1 i)) ∙ sym b.is))
 
@@ -206,34 +217,36 @@ faults_alike words text m n x y a b =
       }),
     )
 
-alike : (words : List (List ℕ)) (text : List ℕ) (m n : ℕ) (x y : List ℕ) → Shown words text m x → Shown words text n y
-    → m ≢ 5 → n ≢ 5 → SameAnswer m n x y
+alike : (words : List (List ℕ)) (text : List ℕ) (m n : ℕ) (x y : List ℕ)
+    → ((s : Script) → IsScript text s → IsPlain s) → Shown words text m x → Shown words text n y → m ≢ 5 → n ≢ 5
+    → SameAnswer m n x y
 unfolding SameAnswer
-alike words text m n x y (by_run a) (by_run b) one other = runs_alike words text m n x y a b one other
-alike words text m n x y (by_run a) (by_check b) one other = absurd (apart (sym a.asks ∙ b.asks))
-alike words text m n x y (by_run a) (by_fault b) one other =
+alike words text m n x y plain (by_run a) (by_run b) one other =
+    runs_alike words text m n x y plain a b one other
+alike words text m n x y plain (by_run a) (by_check b) one other = absurd (apart (sym a.asks ∙ b.asks))
+alike words text m n x y plain (by_run a) (by_fault b) one other =
     absurd (no_script text a.script b.fault a.run.script b.refused)
-alike words text m n x y (by_run a) (by_words b) one other = absurd (b.asks Run a.asks)
-alike words text m n x y (by_check a) (by_run b) one other = absurd (apart (sym b.asks ∙ a.asks))
-alike words text m n x y (by_check a) (by_check b) one other =
+alike words text m n x y plain (by_run a) (by_words b) one other = absurd (b.asks Run a.asks)
+alike words text m n x y plain (by_check a) (by_run b) one other = absurd (apart (sym b.asks ∙ a.asks))
+alike words text m n x y plain (by_check a) (by_check b) one other =
     let script : a.script ≡ b.script = scripts_are.script text a.script b.script a.read b.read in
     (a.status ∙ sym b.status, inl (a.is ∙ ap (λ (s : Script). accepted_text (main_of s).stages) script ∙ sym b.is))
-alike words text m n x y (by_check a) (by_fault b) one other = absurd (no_script text a.script b.fault a.read b.refused)
-alike words text m n x y (by_check a) (by_words b) one other = absurd (b.asks Check a.asks)
-alike words text m n x y (by_fault a) (by_run b) one other =
+alike words text m n x y plain (by_check a) (by_fault b) one other = absurd (no_script text a.script b.fault a.read b.refused)
+alike words text m n x y plain (by_check a) (by_words b) one other = absurd (b.asks Check a.asks)
+alike words text m n x y plain (by_fault a) (by_run b) one other =
     absurd (no_script text b.script a.fault b.run.script a.refused)
-alike words text m n x y (by_fault a) (by_check b) one other = absurd (no_script text b.script a.fault b.read a.refused)
-alike words text m n x y (by_fault a) (by_fault b) one other = faults_alike words text m n x y a b
-alike words text m n x y (by_fault a) (by_words b) one other = absurd (b.asks a.task a.asks)
-alike words text m n x y (by_words a) (by_run b) one other = absurd (a.asks Run b.asks)
-alike words text m n x y (by_words a) (by_check b) one other = absurd (a.asks Check b.asks)
-alike words text m n x y (by_words a) (by_fault b) one other = absurd (a.asks b.task b.asks)
-alike words text m n x y (by_words a) (by_words b) one other = (a.status ∙ sym b.status, inl (a.is ∙ sym b.is))
+alike words text m n x y plain (by_fault a) (by_check b) one other = absurd (no_script text b.script a.fault b.read a.refused)
+alike words text m n x y plain (by_fault a) (by_fault b) one other = faults_alike words text m n x y a b
+alike words text m n x y plain (by_fault a) (by_words b) one other = absurd (b.asks a.task a.asks)
+alike words text m n x y plain (by_words a) (by_run b) one other = absurd (a.asks Run b.asks)
+alike words text m n x y plain (by_words a) (by_check b) one other = absurd (a.asks Check b.asks)
+alike words text m n x y plain (by_words a) (by_fault b) one other = absurd (a.asks b.task b.asks)
+alike words text m n x y plain (by_words a) (by_words b) one other = (a.status ∙ sym b.status, inl (a.is ∙ sym b.is))
 
 pub one_answer : OneAnswer
 unfolding SameAnswer
-one_answer words text m n x y a b one other =
-    alike words text m n x y (shown words text m x a) (shown words text n y b) one other
+one_answer words text m n x y plain a b one other =
+    alike words text m n x y plain (shown words text m x a) (shown words text n y b) one other
 
 -- ---- a call ends well where nothing fails
 

@@ -1,6 +1,6 @@
 -- What the report of a run says: digests of cells, and conversions that read no data.
 use Rattle.std.proofs.Common.{◌≡◌, ℕ, zero, suc, ◌+◌, ◌<◌, ◌≤◌, Bool, true, List, [], ◌∷◌, ◌++◌, length, drop}
-use Rattle.std.proofs.Common.{Option, None, Some, All, map, refl, sym, ap, ◌∙◌, subst, arith}
+use Rattle.std.proofs.Common.{Option, None, Some, All, inl, inr, map, refl, sym, ap, ◌∙◌, subst, arith}
 use Rattle.std.specs.Prelude.{codes, filter, slice_get, slice_index_or, slice_set}
 use Rattle.std.specs.List.{flat_map, sum_by}
 use Rattle.std.specs.Fmt.{digits}
@@ -21,7 +21,7 @@ use Rattle.mf_script.specs.Phases.{ticks_before}
 use Rattle.mf_vault.specs.declared.answers.Entry.{Entry}
 use Rattle.mf_vault.specs.declared.answers.Rest.TheVariants as rest
 use Rattle.mf_vault.specs.declared.io.Io.{Io}
-use Rattle.mf_vault.specs.Facts.{stages}
+use Rattle.mf_vault.specs.Facts.{Facts}
 use Rattle.mf_vault.specs.Actor.{Actor}
 use Rattle.mf_vault.specs.Counting.{io_of}
 use Rattle.mf_vault.proofs.Counted.{io_append}
@@ -34,7 +34,7 @@ use Rattle.mf_client.specs.declared.done.Outcome.{Outcome}
 use Rattle.mf_client.specs.declared.done.Outcome.TheVariants as outcome
 use Rattle.mf_client.specs.declared.done.Part.{Part}
 use Rattle.mf_client.specs.declared.done.Place.{Place}
-use Rattle.mf_client.specs.Acts.{Acts, IsConverted, away_of, cut_all}
+use Rattle.mf_client.specs.Acts.{Acts, SweepsBy, IsConverted, away_of, cut_all}
 use Rattle.mf_client.specs.Sweeps.{Visit, ConvertsInTurn, VisitsInTurn, IsSwept}
 use Rattle.mf_client.specs.Clients.{commands_of}
 use Rattle.mf_client.specs.Runs.{IsDone, RunsFrom, gained, io_gained}
@@ -45,8 +45,8 @@ use Rattle.mf_report.specs.Commands.{converts}
 use Rattle.mf_report.specs.Dumps.{chunk_text}
 use Rattle.mf_report.specs.Report.{took, conversions}
 use Rattle.mf_report.proofs.Cells.{here_is_digest}
-use Rattle.mf_crew.specs.Files.{book_of}
 use Rattle.mf_crew.specs.Alone.{first_actors}
+use Rattle.mf_crew.specs.Live.{Ran, AllRan, IsPhase}
 use Rattle.mf_top.specs.PlainRun.{RunsTo}
 use Rattle.mf_top.specs.Laws.{cell_text, DigestsAreOfCells, ReadsNoData, ConversionsReadNoData}
 
@@ -163,19 +163,25 @@ swept_gains ts (outcome.Swept n) parts before after h = visits_gain h.visits bef
 swept_gains ts outcome.Memory parts before after h = subst (AllGain before) (sym h.1) (all_nothing before)
 swept_gains ts other parts before after h = absurd h
 
+swept_by : (policy : Option (List ℕ)) (o : Outcome) (parts : List Part) (before after : List Actor)
+    → SweepsBy policy o parts before after → AllGain before after
+swept_by None o parts before after h = absurd h
+swept_by (Some ts) o parts before after h = swept_gains ts o parts before after h
+
 -- of a command that converts
-act_none : (ts : List ℕ) (line : ℕ) (x : Act) (o : Outcome) (parts : List Part) (before after : List Actor)
-    → Acts ts line x o parts (cut_all (away_of x) before) after → converts x ≡ true → NoData (io_gained before after)
-act_none ts line (act.Convert file away stop) o parts before after h is =
+act_none : (policy : Option (List ℕ)) (line : ℕ) (x : Act) (o : Outcome) (parts : List Part)
+    (before after : List Actor) → Acts policy line x o parts (cut_all (away_of x) before) after → converts x ≡ true
+    → NoData (io_gained before after)
+act_none policy line (act.Convert file away stop) o parts before after h is =
     let on = h.1 in
     let cut = cut_all away before in
     let gain : AllGain cut after = subst (AllGain cut) (sym on.is)
     (all_set cut file on.old on.new on.was (converted_gains stop o on.old on.new on.goes)) in
     subst NoData (io_cut away before after) (all_none cut after gain)
-act_none ts line act.Sweep o parts before after h is =
+act_none policy line act.Sweep o parts before after h is =
     let cut = cut_all no_servers before in
-    subst NoData (io_cut no_servers before after) (all_none cut after (swept_gains ts o parts cut after h))
-act_none ts line other o parts before after h is = absurd cc
+    subst NoData (io_cut no_servers before after) (all_none cut after (swept_by policy o parts cut after h))
+act_none policy line other o parts before after h is = absurd cc
 
 -- if a command converts
 Fine : Done → Type 0
@@ -186,7 +192,7 @@ done_fine : (s : Script) (at : Place) (c : Command) (d : Done) (before after : L
 unfolding Fine
 done_fine s at c d before after h is =
     subst NoData (sym h.io)
-    (act_none _ c.line c.act d.outcome d.parts before after h.acts (ap converts (sym h.act) ∙ is))
+    (act_none s.policy c.line c.act d.outcome d.parts before after h.acts (ap converts (sym h.act) ∙ is))
 
 run_fine : (s : Script) (p c k : ℕ) (commands : List Command) (before : List Actor) (done : List Done)
     (after : List Actor) → RunsFrom s p c k commands before done after → All Fine done
@@ -195,11 +201,25 @@ run_fine s p c k (x ∷ xs) before [] after h = absurd h
 run_fine s p c k (x ∷ xs) before (d ∷ done) after h =
     All-cons Fine d done (done_fine s _ x d before h.0 h.1) (run_fine s p c (k + 1) xs h.0 done after h.2)
 
+all_ran_fine : (s : Script) (p c : ℕ) (files : List Facts) (clients : List Ran) → AllRan s p c files clients
+    → All Fine (flat_map (λ (r : Ran). r.done) clients)
+all_ran_fine s p c files [] h = All-nil Fine
+all_ran_fine s p c files (r ∷ clients) h =
+    All-append Fine r.done (flat_map (λ (r : Ran). r.done) clients)
+    (run_fine s p c 1 (commands_of s p c) _ r.done r.actors h.0) (all_ran_fine s p (c + 1) files clients h.1)
+
+phase_fine : (s : Script) (p now : ℕ) (before after : List Resting) (done : List Done)
+    → IsPhase s p now before done after → All Fine done
+phase_fine s p now before after done (inl h) =
+    run_fine s p 1 1 (commands_of s p 1) (first_actors s p now before) done h.actors h.runs
+phase_fine s p now before after done (inr h) =
+    subst (All Fine) (sym h.in_order) (all_ran_fine s p 1 h.files h.clients h.ran)
+
 runs_fine : (s : Script) (n : ℕ) (done : List Done) (files : List Resting) → RunsTo s n done files → All Fine done
 runs_fine s zero done files h = subst (All Fine) (sym h.0) (All-nil Fine)
 runs_fine s (suc n) done files h =
     subst (All Fine) (sym h.5) (All-append Fine h.0 h.1 (runs_fine s n h.0 h.2 h.3)
-    (run_fine s (suc n) 1 1 (commands_of s (suc n) 1) (first_actors s (suc n) (ticks_before s (suc n)) h.2) h.1 h.4.actors h.4.runs))
+    (phase_fine s (suc n) (ticks_before s (suc n)) h.2 files h.1 h.4))
 
 -- ---- the sums of conversions
 

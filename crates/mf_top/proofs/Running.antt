@@ -1,9 +1,9 @@
 -- The phases of a script, run one after the other.
 use Rattle.std.proofs.Common.{◌≡◌, ℕ, zero, suc, ◌+◌, ◌-◌, ◌<◌, ◌≤◌, List, [], ◌∷◌, ◌++◌, length, take, get_or}
-use Rattle.std.proofs.Common.{Some, All, refl, sym, ap, ◌∙◌, subst, arith, length-append}
+use Rattle.std.proofs.Common.{Some, All, inl, inr, drop, refl, sym, ap, ◌∙◌, subst, arith, length-append}
 use Rattle.std.specs.Prelude.{slice_get, slice_index_or, flat_map}
 use Rattle.std.proofs.lemmas.Grind.{flat_map-append}
-use Rattle.std.proofs.lemmas.List.{length-take, take_all, take-append-le}
+use Rattle.std.proofs.lemmas.List.{length-take, take_all, take-append-le, drop_more}
 use Rattle.std.proofs.lemmas.List.Elements.{All-append}
 use Rattle.std.proofs.lemmas.Option.{slice_get_within, get_or_from_slice_get}
 use Rattle.std.proofs.Math.Seq.{take-suc}
@@ -16,13 +16,15 @@ use Rattle.mf_lines.specs.declared.parts.Item.TheVariants as item
 use Rattle.mf_lines.specs.Meaning.{Script, phases_in}
 use Rattle.mf_script.specs.Losses.{losses_of, phase_losses}
 use Rattle.mf_script.specs.Phases.{clients_of, ticks_ahead, ticks_before}
+use Rattle.mf_vault.specs.Facts.{Facts}
 use Rattle.mf_vault.specs.Actor.{Actor}
 use Rattle.mf_plain.specs.Resting.{Resting, AtRest}
 use Rattle.mf_client.specs.declared.done.Done.{Done}
 use Rattle.mf_client.specs.Clients.{commands_of}
 use Rattle.mf_client.specs.Runs.{RunsFrom}
 use Rattle.mf_crew.specs.Files.{HasPhase, RestsBy, AllRestBy}
-use Rattle.mf_crew.specs.Alone.{first_actors, RunsPhase}
+use Rattle.mf_crew.specs.Alone.{first_actors}
+use Rattle.mf_crew.specs.Live.{Ran, AllRan, IsPhase}
 use Rattle.mf_top.specs.PlainRun.{new_file, new_from, new_files, AreOfLines, RunsTo, IsPlainRun}
 use Rattle.mf_crew.proofs.Limits.{in_clients, in_item, in_items}
 
@@ -183,23 +185,55 @@ runs_length s p c k [] before done after h = ap length h.0
 runs_length s p c k (x ∷ xs) before [] after h = absurd h
 runs_length s p c k (x ∷ xs) before (d ∷ done) after h = ap suc (runs_length s p c (k + 1) xs h.0 done after h.2)
 
+-- ---- how many commands a phase does
+
+-- its commands are no more than those of its clients, one client after another
+all_ran_few : (s : Script) (p c : ℕ) (files : List Facts) (clients : List Ran) → AllRan s p (c + 1) files clients
+    → c + length clients ≡ length (clients_of s p)
+    → length (flat_map (λ (r : Ran). r.done) clients) ≤ in_clients (drop c (clients_of s p))
+unfolding in_clients
+all_ran_few s p c files [] h e = omega arith
+all_ran_few s p c files (r ∷ clients) h e =
+    let cs = clients_of s p in
+    let none : Client = record { commands = [] } in
+    let here : c < length cs = omega (arith, e) in
+    let back : c + 1 - 1 ≡ c = omega arith in
+    let count : length r.done ≡ length (commands_of s p (c + 1)) =
+    runs_length s p (c + 1) 1 (commands_of s p (c + 1)) _ r.done r.actors h.0 in
+    let same : length (commands_of s p (c + 1)) ≡ length (get_or cs c none).commands =
+    ap (λ k. length (get_or cs k none).commands) back in
+    let split : in_clients (drop c cs) ≡ length (get_or cs c none).commands + in_clients (drop (c + 1) cs) =
+    ap in_clients (drop_more cs c none here) in
+    let more = all_ran_few s p (c + 1) files clients h.1 (omega (arith, e)) in
+    omega (arith, count, same, split, more, length-append r.done (flat_map (λ (r : Ran). r.done) clients))
+
+phase_few : (s : Script) (p now : ℕ) (before after : List Resting) (done : List Done)
+    → IsPhase s p now before done after → length done ≤ in_clients (clients_of s p)
+phase_few s p now before after done (inl h) =
+    let none : Client = record { commands = [] } in
+    omega (
+      arith,
+      runs_length s p 1 1 (commands_of s p 1) (first_actors s p now before) done h.actors h.runs,
+      first_client (clients_of s p) none refl,
+    )
+phase_few s p now before after done (inr h) =
+    let none : 0 + length h.clients ≡ length (clients_of s p) = omega (arith, h.count) in
+    let few = all_ran_few s p 0 h.files h.clients h.ran none in
+    omega (arith, ap length h.in_order, few)
+
 run_few : (s : Script) (n : ℕ) (done : List Done) (files : List Resting) → RunsTo s n done files
     → n ≤ length (phases_in s.items) → length done ≤ in_phases (take n (phases_in s.items))
 unfolding in_phases
 run_few s zero done files h within = omega (arith, ap length h.0)
 run_few s (suc n) done files h within =
     let ps = phases_in s.items in
-    let phase = h.4 in
     let before = run_few s n h.0 h.2 h.3 (omega (arith, within)) in
-    let count : length h.1 ≡ length (commands_of s (suc n) 1) =
-    runs_length s (suc n) 1 1 (commands_of s (suc n) 1) (first_actors s (suc n) (ticks_before s (suc n)) h.2) h.1 phase.actors phase.runs in
-    let none : Client = record { commands = [] } in
     let back : suc n - 1 ≡ n = omega arith in
-    let first = first_client (get_or ps n []) none refl in
-    let same : length (commands_of s (suc n) 1) ≡ length (get_or (get_or ps n []) 0 none).commands =
-    ap (λ k. length (get_or (get_or ps k []) 0 none).commands) back in
+    let few = phase_few s (suc n) (ticks_before s (suc n)) h.2 files h.1 h.4 in
+    let same : in_clients (clients_of s (suc n)) ≡ in_clients (get_or ps n []) =
+    ap (λ k. in_clients (get_or ps k [])) back in
     let taken = ap in_phases (take-suc ps n [] (omega (arith, within))) ∙ in_phases-push (take n ps) (get_or ps n []) in
-    omega (arith, before, count, first, same, taken, ap length h.5, length-append h.0 h.1)
+    omega (arith, before, few, same, taken, ap length h.5, length-append h.0 h.1)
 
 pub plain_few : (s : Script) (done : List Done) (files : List Resting)
     → RunsTo s (length (phases_in s.items)) done files
@@ -222,15 +256,15 @@ has_phase s n within = (omega arith, omega (arith, within))
 
 -- one phase more
 pub run_next : (s : Script) (n : ℕ) (P : Done → Type 0) (done more new : List Done) (files mid : List Resting) (now : ℕ)
-    → now ≡ ticks_before s (n + 1) → RunsTo s n done files → RunsPhase s (n + 1) now files more mid
+    → now ≡ ticks_before s (n + 1) → RunsTo s n done files → IsPhase s (n + 1) now files more mid
     → AllRestBy s (n + 1) now mid → All P done → All P more → new ≡ done ++ more
     → RunsTo s (n + 1) new mid × AllRestBy s (n + 1) (ticks_before s (n + 1)) mid × All P new
 run_next s n P done more new files mid now at so_far phase are small next_small is =
     let next : suc n ≡ n + 1 = omega arith in
-    let then : RunsPhase s (n + 1) (ticks_before s (n + 1)) files more mid =
-    subst (λ k. RunsPhase s (n + 1) k files more mid) at phase in
-    let mine : RunsPhase s (suc n) (ticks_before s (suc n)) files more mid =
-    subst (λ k. RunsPhase s k (ticks_before s k) files more mid) (sym next) then in (
+    let then : IsPhase s (n + 1) (ticks_before s (n + 1)) files more mid =
+    subst (λ k. IsPhase s (n + 1) k files more mid) at phase in
+    let mine : IsPhase s (suc n) (ticks_before s (suc n)) files more mid =
+    subst (λ k. IsPhase s k (ticks_before s k) files more mid) (sym next) then in (
       subst (λ k. RunsTo s k new mid) next (done, more, files, so_far, mine, is),
       subst (λ k. AllRestBy s (n + 1) k mid) at are,
       subst (All P) (sym is) (All-append P done more small next_small),

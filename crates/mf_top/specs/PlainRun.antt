@@ -1,4 +1,4 @@
--- *Plain run*: what the phases of a script do, one after the other, where each has one client.
+-- *Licensed report*: what the phases of a script do, one after the other, each by one client or by several.
 use Rattle.std.specs.Prelude.{◌≡◌, ℕ, zero, suc, ◌+◌, List, [], ◌∷◌, ◌++◌, length, slice_get, Some}
 use Rattle.mf_lines.specs.declared.parts.FileLine.{FileLine}
 use Rattle.mf_lines.specs.Meaning.{Script, phases_in}
@@ -7,7 +7,7 @@ use Rattle.mf_script.specs.Phases.{ticks_before}
 use Rattle.mf_plain.specs.Resting.{Resting, AtRest, unborn}
 use Rattle.mf_client.specs.declared.done.Done.{Done}
 use Rattle.mf_crew.specs.Files.{book_of}
-use Rattle.mf_crew.specs.Alone.{RunsPhase}
+use Rattle.mf_crew.specs.Live.{IsPhase}
 
 -- ---- the files before the first phase
 
@@ -44,8 +44,8 @@ pub record AreOfLines (s : Script) (files : List Resting) : Type 0 where
 abbrev pub RunsTo : Script → (n : ℕ) → List Done → List Resting → Type 0
 RunsTo s zero done files = (done ≡ []) × (files ≡ new_files s)
 RunsTo s (suc n) done files =
-    (before last : List Done) × (mid : List Resting) × RunsTo s n before mid × RunsPhase s (suc n) (ticks_before s (suc n)) mid last
-    files × (done ≡ before ++ last)
+    (before last : List Done) × (mid : List Resting) × RunsTo s n before mid
+    × IsPhase s (suc n) (ticks_before s (suc n)) mid last files × (done ≡ before ++ last)
 
 -- the commands of all phases were done so, and these files are left
 abbrev pub IsPlainRun : Script → List Done → List Resting → Type 0

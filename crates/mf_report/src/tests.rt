@@ -6,7 +6,6 @@ use crate::outcomes::push_outcome;
 use mf_client::{Done, Outcome, Part, Parts, Place};
 use mf_convert::Change;
 use mf_io::MemorySink;
-use mf_places::Servers;
 use mf_read::{LostNames, ReadOutcome};
 use mf_reclaim::{PinCounts, ReclaimOutcome};
 use mf_repair::RepairOutcome;
@@ -28,7 +27,7 @@ const READ: &str =
     "bytes 4 gen 0 from 4 sha256 88d4266fd4e6338d13b845fcf289579d209c897823b9217da3e161936f031589";
 
 const REPORT: &str =
-    "report 1\n1.1.1 create a: created io 0 0 0 0 12 12 0\n1.1.2 read a: bytes 4 gen 0 from 4 sha256 88d4266fd4e6338d13b845fcf289579d209c897823b9217da3e161936f031589 io 4 0 0 0 0 0 0\n1.1.2 a converted 0 to 1 made 9\n1.1.2 a last 1\ntotal io 4 0 0 0 12 12 0\nconverts io 0 0 0 0 0 0 0\nend\n";
+    "report 1\n1.1.1 create a: created io 0 0 0 0 12 12 0\n1.1.2 sweep: swept 1 io 0 0 4 0 2 7 0\n1.1.2 a converted 0 to 1 made 2\n1.1.2 a busy\ntotal io 0 0 4 0 14 19 0\nconverts io 0 0 4 0 2 7 0\nend\n";
 
 const CHANGES: [(Change, &str); 12] = [
     (Change::Created, "created"),
@@ -228,24 +227,23 @@ fn place_of(command: u32) -> Place {
     }
 }
 
-// A read of the file, with two parts.
-fn read_done(alloc: Global) -> Result<Done, Memory>
+// A sweep, with two parts.
+fn sweep_done(alloc: Global) -> Result<Done, Memory>
     ensures { IfOk result (λ d. d.io ≡ record {
-      pieces = 4;
+      pieces = 0;
       copies = 0;
-      parities = 0;
+      parities = 4;
       misses = 0;
-      writes = 0;
-      probes = 0;
+      writes = 2;
+      probes = 7;
       drops = 0;
     }) }
 {
     let converted = Change::Converted {
         from: 0,
         to: 1,
-        made: 9,
+        made: 2,
     };
-    let last = Change::Last { g: 1 };
     let parts = vec![in alloc;
         Part {
             file: 0,
@@ -253,29 +251,21 @@ fn read_done(alloc: Global) -> Result<Done, Memory>
         },
         Part {
             file: 0,
-            change: last
+            change: Change::Busy
         },
     ]?;
     Ok(Done {
         place: place_of(2),
-        act: Act::Read {
-            file: 0,
-            away: Servers { bits: 0 },
-        },
-        outcome: Outcome::Bytes {
-            g: 0,
-            length: 4,
-            from: 4,
-            digest: DIGEST,
-        },
+        act: Act::Sweep,
+        outcome: Outcome::Swept(1),
         parts: Parts::new(parts),
         io: Io {
-            pieces: 4,
+            pieces: 0,
             copies: 0,
-            parities: 0,
+            parities: 4,
             misses: 0,
-            writes: 0,
-            probes: 0,
+            writes: 2,
+            probes: 7,
             drops: 0,
         },
     })
@@ -300,10 +290,13 @@ fn a_report_has_its_lines_in_order(rt: HostRuntime) -> Result<(), Fail> {
             drops: 0,
         },
     };
-    let done = vec![in alloc; made, read_done(alloc)?]?;
+    let done = vec![in alloc; made, sweep_done(alloc)?]?;
     let files = Vec::new(alloc);
     let mut whole = MemorySink::new(alloc, 4096, Vec::new(alloc));
-    assert_eq!(rt; report(alloc, &mut whole, &script, &done, &files), Ok(()));
+    assert_eq!(rt;
+        report(alloc, &mut whole, &script, &done, &files, false),
+        Ok(())
+    );
     assert_eq!(rt; whole.written(), REPORT.as_bytes());
     Ok(())
 }

@@ -1,6 +1,6 @@
 use Rattle.std.proofs.Common.{◌∙◌}
 use Rattle.mf_report.proofs.Sums.{conversions_fit}
-use Rattle.mf_report.proofs.writing.conversions_took.Goals as goal
+use Rattle.mf_report.proofs.totals.conversions_took.Goals as goal
 
 pub total-requires : goal.total-requires
 total-requires c =

@@ -1,6 +1,6 @@
 use Rattle.std.proofs.Common.{◌∙◌}
 use Rattle.mf_report.proofs.Sums.{done_fit}
-use Rattle.mf_report.proofs.writing.took.Goals as goal
+use Rattle.mf_report.proofs.totals.took.Goals as goal
 
 pub total-requires : goal.total-requires
 total-requires c =

@@ -1,5 +1,5 @@
 -- A script has one plain run, words and a text have one answer, and a call ends well where nothing fails.
-use Rattle.std.proofs.Common.{◌≡◌, ◌≢◌, ℕ, zero, suc, ◌⊎◌, inl, inr, Bool, false, List, [], ◌∷◌, ◌++◌, map}
+use Rattle.std.proofs.Common.{◌≡◌, ◌≢◌, ℕ, zero, suc, ◌⊎◌, inl, inr, Bool, true, false, List, [], ◌∷◌, ◌++◌, map}
 use Rattle.std.proofs.Common.{◌≤◌, length, Option, Some, All, refl, sym, ap, ◌∙◌, subst, arith}
 use Rattle.std.specs.Prelude.{IfSome}
 use Rattle.std.specs.List.{list_any}
@@ -19,7 +19,7 @@ use Rattle.mf_client.specs.Laws.{IsWhole, HadMemory}
 use Rattle.mf_client.proofs.Once.{run_once}
 use Rattle.mf_script.proofs.Exclusive.{one_answer as scripts_are}
 use Rattle.mf_lines.specs.declared.parts.Content.TheVariants as given
-use Rattle.mf_report.specs.Report.{report_text}
+use Rattle.mf_report.specs.Json.{written_text}
 use Rattle.mf_report.specs.Verdicts.{accepted_text, refused_text, words_refusal}
 use Rattle.mf_crew.specs.Files.{left_by}
 use Rattle.mf_crew.specs.Alone.{first_actors, RunsPhase}
@@ -104,13 +104,14 @@ runs_once s (suc n) ds es one other plain within a b had_a had_b =
 
 -- of a script that was run, with the status
 record Ran (words : List (List ℕ)) (text : List ℕ) (m : ℕ) (x : List ℕ) : Type 0 where
+  json : Bool
   script : Script
   done : List Done
   files : List Resting
-  asks : words ≡ task_words Run
+  asks : words ≡ task_words (Run json)
   run : IsRun text script done files
   status : ((m ≡ 0) × (list_any lacks_memory done ≡ false)) ⊎ (m ≡ 5)
-  is : x ≡ report_text script done files
+  is : x ≡ written_text json script done files
 
 record Tried (words : List (List ℕ)) (text : List ℕ) (m : ℕ) (x : List ℕ) : Type 0 where
   script : Script
@@ -139,8 +140,9 @@ data Shown (words : List (List ℕ)) (text : List ℕ) (m : ℕ) (x : List ℕ) 
   by_words : Wordless words m x → Shown words text m x
 
 shown : (words : List (List ℕ)) (text : List ℕ) (m : ℕ) (x : List ℕ) → IsAnswer words text m x → Shown words text m x
-shown words text m x (reported s done files run fine) =
+shown words text m x (reported json s done files run fine) =
     by_run (record {
+      json = json;
       script = s;
       done = done;
       files = files;
@@ -149,8 +151,17 @@ shown words text m x (reported s done files run fine) =
       status = inl (refl, fine);
       is = refl;
     })
-shown words text m x (lacked s done files run lacks) =
-    by_run (record { script = s; done = done; files = files; asks = refl; run = run; status = inr refl; is = refl })
+shown words text m x (lacked json s done files run lacks) =
+    by_run (record {
+      json = json;
+      script = s;
+      done = done;
+      files = files;
+      asks = refl;
+      run = run;
+      status = inr refl;
+      is = refl;
+    })
 shown words text m x (accepted s is) =
     by_check (record { script = s; asks = refl; read = is; status = refl; is = refl })
 shown words text m x (refused task fault is) =
@@ -158,8 +169,15 @@ shown words text m x (refused task fault is) =
 shown words text m x (no_words none) = by_words (record { asks = none; status = refl; is = refl })
 
 -- the words of the tasks differ
-apart : task_words Run ≡ task_words Check → ⊥
-apart e = cc
+apart : (json : Bool) → task_words (Run json) ≡ task_words Check → ⊥
+apart true e = cc
+apart false e = cc
+
+one_form : (json other : Bool) → task_words (Run json) ≡ task_words (Run other) → json ≡ other
+one_form true true e = refl
+one_form true false e = absurd cc
+one_form false true e = absurd cc
+one_form false false e = refl
 
 -- a text with a fault is no script
 no_script : (text : List ℕ) (s : Script) (f : ScriptFault) → IsScript text s → IsRefused text f → ⊥
@@ -197,7 +215,10 @@ runs_alike words text m n x y plain a b one other =
     let same = runs_once b.script (length (phases_in b.script.items)) a.done b.done a.files b.files
     (plain b.script b.run.script) (omega arith) mine b.run.run (none_lacks a.done fine_a.1)
     (none_lacks b.done fine_b.1) in
-    (fine_a.0 ∙ sym fine_b.0, inl (a.is ∙ (λ i. report_text (script i) (same.0 i) (same.1 i)) ∙ sym b.is))
+    let form = one_form a.json b.json (sym a.asks ∙ b.asks) in (
+      fine_a.0 ∙ sym fine_b.0,
+      inl (a.is ∙ (λ i. written_text (form i) (script i) (same.0 i) (same.1 i)) ∙ sym b.is),
+    )
 
 faults_alike : (words : List (List ℕ)) (text : List ℕ) (m n : ℕ) (x y : List ℕ) → Faulty words text m x
     → Faulty words text n y → SameAnswer m n x y
@@ -223,11 +244,11 @@ alike : (words : List (List ℕ)) (text : List ℕ) (m n : ℕ) (x y : List ℕ)
 unfolding SameAnswer
 alike words text m n x y plain (by_run a) (by_run b) one other =
     runs_alike words text m n x y plain a b one other
-alike words text m n x y plain (by_run a) (by_check b) one other = absurd (apart (sym a.asks ∙ b.asks))
+alike words text m n x y plain (by_run a) (by_check b) one other = absurd (apart a.json (sym a.asks ∙ b.asks))
 alike words text m n x y plain (by_run a) (by_fault b) one other =
     absurd (no_script text a.script b.fault a.run.script b.refused)
-alike words text m n x y plain (by_run a) (by_words b) one other = absurd (b.asks Run a.asks)
-alike words text m n x y plain (by_check a) (by_run b) one other = absurd (apart (sym b.asks ∙ a.asks))
+alike words text m n x y plain (by_run a) (by_words b) one other = absurd (b.asks (Run a.json) a.asks)
+alike words text m n x y plain (by_check a) (by_run b) one other = absurd (apart b.json (sym b.asks ∙ a.asks))
 alike words text m n x y plain (by_check a) (by_check b) one other =
     let script : a.script ≡ b.script = scripts_are.script text a.script b.script a.read b.read in
     (a.status ∙ sym b.status, inl (a.is ∙ ap (λ (s : Script). accepted_text (main_of s).stages) script ∙ sym b.is))
@@ -238,7 +259,7 @@ alike words text m n x y plain (by_fault a) (by_run b) one other =
 alike words text m n x y plain (by_fault a) (by_check b) one other = absurd (no_script text b.script a.fault b.read a.refused)
 alike words text m n x y plain (by_fault a) (by_fault b) one other = faults_alike words text m n x y a b
 alike words text m n x y plain (by_fault a) (by_words b) one other = absurd (b.asks a.task a.asks)
-alike words text m n x y plain (by_words a) (by_run b) one other = absurd (a.asks Run b.asks)
+alike words text m n x y plain (by_words a) (by_run b) one other = absurd (a.asks (Run b.json) b.asks)
 alike words text m n x y plain (by_words a) (by_check b) one other = absurd (a.asks Check b.asks)
 alike words text m n x y plain (by_words a) (by_fault b) one other = absurd (a.asks b.task b.asks)
 alike words text m n x y plain (by_words a) (by_words b) one other = (a.status ∙ sym b.status, inl (a.is ∙ sym b.is))
@@ -265,18 +286,19 @@ not_words task words text x e (by_check a) = let told = a.status in cc
 not_words task words text x e (by_fault a) = let told = a.status in cc
 not_words task words text x e (by_words a) = a.asks task e
 
-run_ends_well : (c : Call) (status : Status) (text : List ℕ) (s : Script) → Ends c status → c.words ≡ task_words Run
-    → c.left ≡ Some text → IsScript text s → NothingFailed c → (status ≡ ended.Done) ⊎ (status ≡ ended.Memory)
-run_ends_well c ended.Done text s h asks left is held = inl refl
-run_ends_well c ended.Memory text s h asks left is held = inr refl
-run_ends_well c ended.Refused text s h asks left is held =
+run_ends_well : (json : Bool) (c : Call) (status : Status) (text : List ℕ) (s : Script) → Ends c status
+    → c.words ≡ task_words (Run json) → c.left ≡ Some text → IsScript text s → NothingFailed c
+    → (status ≡ ended.Done) ⊎ (status ≡ ended.Memory)
+run_ends_well json c ended.Done text s h asks left is held = inl refl
+run_ends_well json c ended.Memory text s h asks left is held = inr refl
+run_ends_well json c ended.Refused text s h asks left is held =
     let same : h.text ≡ text = subst (λ l. IfSome l (λ bytes. h.text ≡ bytes)) left h.input in
     absurd (not_refused c.words h.text s h.writes.bytes (shown c.words h.text 1 h.writes.bytes h.writes.answer)
     (subst (λ t. IsScript t s) (sym same) is))
-run_ends_well c ended.Words text s h asks left is held =
-    absurd (not_words Run c.words h.text h.writes.bytes asks (shown c.words h.text 2 h.writes.bytes h.writes.answer))
-run_ends_well c ended.SourceFault text s h asks left is held = absurd (held.reads h.1)
-run_ends_well c ended.SinkFault text s h asks left is held = absurd (held.writes h.writes.failed)
+run_ends_well json c ended.Words text s h asks left is held =
+    absurd (not_words (Run json) c.words h.text h.writes.bytes asks (shown c.words h.text 2 h.writes.bytes h.writes.answer))
+run_ends_well json c ended.SourceFault text s h asks left is held = absurd (held.reads h.1)
+run_ends_well json c ended.SinkFault text s h asks left is held = absurd (held.writes h.writes.failed)
 
 check_ends_well : (c : Call) (status : Status) → Ends c status → c.words ≡ task_words Check → NothingFailed c
     → (status ≡ ended.Done) ⊎ ((status ≡ ended.Refused) ⊎ (status ≡ ended.Memory))

@@ -1,5 +1,6 @@
 -- Laws of what the program answers, and of how a call ends.
-use Rattle.std.specs.Prelude.{◌≡◌, ◌≢◌, ℕ, ◌<◌, ◌⊎◌, List, ◌++◌, codes, length, slice_get, slice_index_or, Some}
+use Rattle.std.specs.Prelude.{◌≡◌, ◌≢◌, ℕ, ◌<◌, ◌⊎◌, Bool, List, ◌++◌, codes, length, slice_get, slice_index_or}
+use Rattle.std.specs.Prelude.{Some}
 use Rattle.sha2.specs.Sha256.{sha256}
 use Rattle.mf_text.specs.Hex.{hex_text}
 use Rattle.mf_io.specs.Faults.{HasRisen}
@@ -66,8 +67,9 @@ pub record NothingFailed (c : Call) : Type 0 where
 
 -- Where nothing failed, a call that runs a script ends with 0 or 5, and one that tries a family with 0, 1 or 5.
 pub record Completes : Type 0 where
-  pub run : (c : Call) (status : Status) (text : List ℕ) (s : Script) → Ends c status → c.words ≡ task_words Run
-      → c.left ≡ Some text → IsScript text s → NothingFailed c → (status ≡ ended.Done) ⊎ (status ≡ ended.Memory)
+  pub run : (json : Bool) (c : Call) (status : Status) (text : List ℕ) (s : Script) → Ends c status
+      → c.words ≡ task_words (Run json) → c.left ≡ Some text → IsScript text s → NothingFailed c
+      → (status ≡ ended.Done) ⊎ (status ≡ ended.Memory)
   pub check : (c : Call) (status : Status) → Ends c status → c.words ≡ task_words Check → NothingFailed c
       → (status ≡ ended.Done) ⊎ ((status ≡ ended.Refused) ⊎ (status ≡ ended.Memory))
 

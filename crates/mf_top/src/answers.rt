@@ -20,12 +20,13 @@ use std::alloc::Global;
 use std::sync::Wait;
 use std::thread::Threads;
 
-/// Runs the script that the text is, and writes the report, or writes what is wrong with the text.
+/// Runs the script that the text is, and writes the report, as JSON or as lines; or writes what is wrong with the text.
 /// Says with which status the call ends.
 pub fn answer_to_run<R: Threads + Wait + Sync, K: Sink, T: Turnstile>(
     rt: &R,
     alloc: Global,
     text: &[u8],
+    json: bool,
     sink: &mut K,
     turnstile: &T,
 ) -> Status
@@ -34,10 +35,10 @@ pub fn answer_to_run<R: Threads + Wait + Sync, K: Sink, T: Turnstile>(
       written_now = K.written sink.new;
       faults = K.faults sink.old;
       faults_now = K.faults sink.new;
-    }) (task_words Task.Run) text.now result }
+    }) (task_words (Task.Run json)) text.now result }
 {
     match read_script(alloc, text) {
-        Ok(script) => answer_run(rt, alloc, &script, sink, turnstile),
+        Ok(script) => answer_run(rt, alloc, &script, json, sink, turnstile),
         Err(fault) => answer_fault(alloc, &fault, sink),
     }
 }
@@ -58,11 +59,12 @@ pub fn answer_to_check<K: Sink>(alloc: Global, text: &[u8], sink: &mut K) -> Sta
     }
 }
 
-// Runs the script, and writes the report.
+// Runs the script, and writes the report, as JSON or as lines.
 fn answer_run<R: Threads + Wait + Sync, K: Sink, T: Turnstile>(
     rt: &R,
     alloc: Global,
     script: &Script,
+    json: bool,
     sink: &mut K,
     turnstile: &T,
 ) -> Status
@@ -73,12 +75,12 @@ fn answer_run<R: Threads + Wait + Sync, K: Sink, T: Turnstile>(
           written_now = K.written sink.new;
           faults = K.faults sink.old;
           faults_now = K.faults sink.new;
-        }) (task_words Task.Run) text result }
+        }) (task_words (Task.Run json)) text result }
 {
     let Ok(ran) = run(rt, alloc, script, turnstile) else {
         return Status::Memory;
     };
-    match report(alloc, sink, script, &ran.done, &ran.files) {
+    match report(alloc, sink, script, &ran.done, &ran.files, json) {
         Ok(()) => status_of(&ran.done),
         Err(ReportFault::Sink) => Status::SinkFault,
         Err(ReportFault::Memory) => Status::Memory,

@@ -29,8 +29,8 @@ const TEXT_LIMIT: usize = 1_048_576;
 /// What the words of a call ask for.
 #[derive(Clone, Copy, Debug, PartialEq, Eq)]
 enum Task {
-    /// To run a script.
-    Run,
+    /// To run a script, and to write the report as JSON or as lines.
+    Run { json: bool },
     /// To try the family of a script.
     Check,
 }
@@ -54,8 +54,8 @@ enum Status {
 
 /// Does what the words ask for, which stand after the program's name, and answers the program's
 /// status. With the one word `run` it reads a script from the source, runs its phases one after the
-/// other over files that aren't created yet, and writes the report to the sink. With the one word
-/// `check` it does as `morph_check`. The turnstile is told of each client before each of its
+/// other over files that aren't created yet, and writes the report to the sink; with `run --json` it
+/// writes it as JSON. With the one word `check` it does as `morph_check`. The turnstile is told of each client before each of its
 /// commands. The status is:
 ///
 /// - 0: the script was read to its end, and its report or line was written whole; no command lacked
@@ -136,7 +136,7 @@ fn end_of<R: Threads + Wait + Sync, S: Source, K: Sink, T: Turnstile>(
     }) result }
 {
     match task_of(words) {
-        Some(Task::Run) => end_of_run(rt, alloc, source, sink, turnstile),
+        Some(Task::Run { json }) => end_of_run(rt, alloc, json, source, sink, turnstile),
         Some(Task::Check) => end_of_check(alloc, source, sink),
         None => write_answer(sink, words_line(), Status::Words),
     }
@@ -149,6 +149,7 @@ fn task_of(words: &[String]) -> Option<Task>
 {
     match words {
         [word] => task_named(word.as_str()),
+        [word, option] => task_with(word.as_str(), option.as_str()),
         _ => None,
     }
 }
@@ -159,9 +160,21 @@ fn task_named(word: &str) -> Option<Task>
         (λ task. word.now ∷ [] ≡ task_words task) }
 {
     if word == "run" {
-        Some(Task::Run)
+        Some(Task::Run { json: false })
     } else if word == "check" {
         Some(Task::Check)
+    } else {
+        None
+    }
+}
+
+// The task of this name with this option.
+fn task_with(word: &str, option: &str) -> Option<Task>
+    ensures { MatchOption result (AsksNothing (word.now ∷ option.now ∷ []))
+        (λ task. word.now ∷ option.now ∷ [] ≡ task_words task) }
+{
+    if word == "run" && option == "--json" {
+        Some(Task::Run { json: true })
     } else {
         None
     }
@@ -171,12 +184,13 @@ fn task_named(word: &str) -> Option<Task>
 fn end_of_run<R: Threads + Wait + Sync, S: Source, K: Sink, T: Turnstile>(
     rt: &R,
     alloc: Global,
+    json: bool,
     source: &mut S,
     sink: &mut K,
     turnstile: &T,
 ) -> Status
     ensures { Ends (record {
-      words = task_words Task.Run;
+      words = task_words (Task.Run json);
       left = S.left source.old;
       left_now = S.left source.new;
       faults = S.faults source.old;
@@ -190,7 +204,7 @@ fn end_of_run<R: Threads + Wait + Sync, S: Source, K: Sink, T: Turnstile>(
     }) result }
 {
     match read_all(alloc, source, TEXT_LIMIT) {
-        Ok(text) => answer_to_run(rt, alloc, &text, sink, turnstile),
+        Ok(text) => answer_to_run(rt, alloc, &text, json, sink, turnstile),
         Err(ReadAll::TooLong) => write_answer(sink, too_long_line(), Status::Refused),
         Err(ReadAll::Fault) => Status::SourceFault,
         Err(ReadAll::Memory) => Status::Memory,

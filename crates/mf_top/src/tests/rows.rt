@@ -463,7 +463,7 @@ const LOSSES_OF_TWO_PHASES_REPORT: &str = "\
     end\n";
 
 /// A script, and its report.
-const RUNS: [(&str, &str); 12] = [
+pub const RUNS: [(&str, &str); 12] = [
     (AN_EMPTY_FILE, AN_EMPTY_FILE_REPORT),
     (A_SHORT_STRIPE, A_SHORT_STRIPE_REPORT),
     (A_CONVERSION, A_CONVERSION_REPORT),

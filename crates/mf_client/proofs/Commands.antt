@@ -1,10 +1,12 @@
 -- What a command that was done leaves of the files' actors.
 use Rattle.std.proofs.Common.{◌≡◌, ℕ, suc, ◌+◌, ◌^◌, ◌<◌, ◌≤◌, Bool, List, [], ◌∷◌, ◌++◌, length}
 use Rattle.std.proofs.Common.{get_or, take, refl, sym, ap, ◌∙◌, subst, arith, All, Option}
-use Rattle.std.proofs.Common.{IfSome, inl, inr}
+use Rattle.std.proofs.Common.{IfSome, inl, inr, ◌*◌, Some, None}
+use Rattle.mf_client.proofs.Dues.{are_low, few_due}
 use Rattle.std.proofs.lemmas.Bool.{cases_lt}
 use Rattle.std.proofs.lemmas.List.{length-map, get_or-map}
 use Rattle.std.proofs.lemmas.Option.{slice_get_within, get_or_from_slice_get, slice_get-get_or}
+use Rattle.std.specs.Prelude.{is_some}
 use Rattle.std.proofs.lemmas.List.Elements.{All-head, All-tail, All-cons, All-nil, All-set, All-push}
 use Rattle.std.proofs.Math.Seq.{take-suc}
 use Rattle.mf_machine.specs.File.{listed}
@@ -18,25 +20,29 @@ use Rattle.mf_lines.specs.Meaning.{Script}
 use Rattle.mf_script.specs.Losses.{losses_of}
 use Rattle.mf_script.specs.Scripts.{IsScript}
 use Rattle.mf_vault.specs.declared.answers.Entry.{Entry}
+use Rattle.mf_vault.specs.declared.io.Io.{Io}
 use Rattle.mf_vault.specs.Facts.{Facts, lines}
-use Rattle.mf_vault.specs.Actor.{Actor}
+use Rattle.mf_vault.specs.Actor.{Actor, did, cut_off}
 use Rattle.mf_vault.specs.Counting.{no_io, add_io, io_of}
-use Rattle.mf_vault.specs.Conditions.{IsIdle}
+use Rattle.mf_vault.specs.Conditions.{IsIdle, IsOfFamily}
 use Rattle.mf_vault.specs.Licence.{IsKept, entries_of}
-use Rattle.mf_vault.proofs.Counted.{io_low}
+use Rattle.mf_vault.proofs.Counted.{Below, io_low}
 use Rattle.mf_vault.proofs.Doing.{facts_stay}
 use Rattle.mf_client.specs.declared.done.Done.{Done}
 use Rattle.mf_client.specs.declared.done.Outcome.{Outcome}
 use Rattle.mf_client.specs.declared.done.Outcome.TheVariants as outcome
 use Rattle.mf_client.specs.declared.done.Part.{Part}
-use Rattle.mf_client.specs.Acts.{OnFile, Acts, loses, LosesIn, LosesAll, IsLost, lists_on, away_of, cut_all}
-use Rattle.mf_client.specs.Clients.{facts_in, commands_of, AreFiles, HasClient}
+use Rattle.mf_client.specs.OnFile.{OnFile}
+use Rattle.mf_client.specs.Sweeps.{Visit, IsSwept, ages_in}
+use Rattle.mf_client.specs.Acts.{Acts, SweepsBy, loses, LosesIn, LosesAll, IsLost, lists_on, away_of, cut_all}
+use Rattle.mf_client.specs.Clients.{facts_in, commands_of, family_of, AreFiles, HasClient}
 use Rattle.mf_client.specs.Runs.{gained, io_gained, IsSmall, IsDone, RunsFrom}
-use Rattle.mf_client.specs.Steps.{Comes, IsRunning, IsLine, Finds}
-use Rattle.mf_client.proofs.Known.{command_knows}
+use Rattle.mf_client.specs.Steps.{Comes, IsRunning, IsLine, Finds, AreOfFamily}
+use Rattle.mf_client.proofs.Known.{command_knows, has_policy, IsPolicied}
 use Rattle.mf_client.proofs.Listing.{lose_listed}
 use Rattle.mf_client.proofs.Leaving.{Stays, quiet_all, AreQuiet}
 use Rattle.mf_client.proofs.Numbered.{io_set, io_cut, plus_none, facts_cut, idle_cut, IsFiled, filed, filed_cut}
+use Rattle.mf_client.proofs.Visiting.{visits_pass}
 use Rattle.mf_client.proofs.Went.{comes_went, gained_is}
 
 -- ---- lose
@@ -163,25 +169,80 @@ lost_left server line outcome.Memory before after idle x = record {
 }
 lost_left server line other before after idle x = absurd x
 
-acts_left : (line : ℕ) (x : Act) (o : Outcome) (parts : List Part) (before after : List Actor) → All IsFiled before
-    → All IsIdle before → Acts line x o parts before after → Left before after
-acts_left line (act.Create file) o parts before after kept idle x = on_left (act.Create file) o file before after
-    kept idle x.1
-acts_left line (act.Read file away) o parts before after kept idle x =
+-- a sweep
+below_small : (x : Io) (n : ℕ) → n < 2 ^ 32 → Below x n → IsSmall x
+below_small x n top b =
+    let p = b.pieces in
+    let c = b.copies in
+    let r = b.parities in
+    let m = b.misses in
+    let w = b.writes in
+    let q = b.probes in
+    let d = b.drops in
+    record {
+      pieces = omega arith;
+      copies = omega arith;
+      parities = omega arith;
+      misses = omega arith;
+      writes = omega arith;
+      probes = omega arith;
+      drops = omega arith;
+    }
+
+swept_left : (thresholds : List ℕ) (o : Outcome) (parts : List Part) (before after : List Actor)
+    → length thresholds ≤ 4 → length before ≤ 128 → All IsFiled before → All IsIdle before
+    → IsSwept thresholds o parts before after → Left before after
+swept_left thresholds (outcome.Swept n) parts before after few most kept idle x =
+    let low = are_low x.visits thresholds (ages_in before) x.due few in
+    let r = visits_pass x.visits before after low idle kept x.turn in
+    let due = few_due thresholds before in
+    let long = sym (length-map x.visits (λ (v : Visit). (v.file, v.due))) ∙ ap length x.due in
+    record {
+      idle = r.idle;
+      facts = r.facts;
+      small = below_small (io_gained before after) (length x.visits * 7920020) (omega arith) r.low;
+    }
+swept_left thresholds outcome.Memory parts before after few most kept idle x = record {
+  idle = subst (All IsIdle) (sym x.1) idle;
+  facts = ap facts_in x.1;
+  small = subst IsSmall (sym (ap (io_gained before) x.1 ∙ Rattle.mf_client.proofs.Numbered.io_same before)) nothing_small;
+}
+swept_left thresholds other parts before after few most kept idle x = absurd x
+
+-- a policy has at most 4 thresholds
+abbrev pub IsFewPolicy : Option (List ℕ) → Type 0
+IsFewPolicy policy = IfSome policy (λ thresholds. length thresholds ≤ 4)
+
+sweeps_left : (policy : Option (List ℕ)) (o : Outcome) (parts : List Part) (before after : List Actor)
+    → IsFewPolicy policy → length before ≤ 128 → All IsFiled before → All IsIdle before
+    → SweepsBy policy o parts before after → Left before after
+sweeps_left None o parts before after few most kept idle x = absurd x
+sweeps_left (Some thresholds) o parts before after few most kept idle x =
+    swept_left thresholds o parts before after few most kept idle x
+
+acts_left : (policy : Option (List ℕ)) (line : ℕ) (x : Act) (o : Outcome) (parts : List Part)
+    (before after : List Actor) → IsFewPolicy policy → length before ≤ 128 → All IsFiled before
+    → All IsIdle before → Acts policy line x o parts before after → Left before after
+acts_left policy line (act.Create file) o parts before after few most kept idle x =
+    on_left (act.Create file) o file before after kept idle x.1
+acts_left policy line (act.Read file away) o parts before after few most kept idle x =
     on_left (act.Read file away) o file before after kept idle x.1
-acts_left line (act.Repair file away) o parts before after kept idle x =
+acts_left policy line (act.Repair file away) o parts before after few most kept idle x =
     on_left (act.Repair file away) o file before after kept idle x.1
-acts_left line (act.Convert file away stop) o parts before after kept idle x =
+acts_left policy line (act.Convert file away stop) o parts before after few most kept idle x =
     on_left (act.Convert file away stop) o file before after kept idle x.1
-acts_left line (act.Reclaim file) o parts before after kept idle x =
+acts_left policy line (act.Reclaim file) o parts before after few most kept idle x =
     on_left (act.Reclaim file) o file before after kept idle x.1
-acts_left line (act.Remove file) o parts before after kept idle x = on_left (act.Remove file) o file before after
-    kept idle x.1
-acts_left line (act.Hold file) o parts before after kept idle x = on_left (act.Hold file) o file before after kept
-    idle x.1
-acts_left line (act.Release file) o parts before after kept idle x =
+acts_left policy line (act.Remove file) o parts before after few most kept idle x =
+    on_left (act.Remove file) o file before after kept idle x.1
+acts_left policy line (act.Hold file) o parts before after few most kept idle x =
+    on_left (act.Hold file) o file before after kept idle x.1
+acts_left policy line (act.Release file) o parts before after few most kept idle x =
     on_left (act.Release file) o file before after kept idle x.1
-acts_left line (act.Lose server) o parts before after kept idle x = lost_left server line o before after idle x.1
+acts_left policy line (act.Lose server) o parts before after few most kept idle x =
+    lost_left server line o before after idle x.1
+acts_left policy line act.Sweep o parts before after few most kept idle x =
+    sweeps_left policy o parts before after few most kept idle x
 
 -- ---- a client on its way
 
@@ -220,15 +281,17 @@ runs_push s phase client n (k ∷ commands) c (e ∷ done) d before mid after (n
 
 pub running_more : (s : Script) (phase client i : ℕ) (start now after : List Actor) (done items : List Done)
     (d : Command) (next : Done) → IsRunning s phase client i start done now → All IsKept now
+    → IsFewPolicy s.policy → length now ≤ 128
     → i < length (commands_of s phase client)
     → IsDone s (record { phase = phase; client = client; command = i + 1 }) (get_or (commands_of s phase client) i
     d) next
     now after → items ≡ done ++ next ∷ [] → IsRunning s phase client (i + 1) start items after
-running_more s phase client i start now after done items d next x kept low one is =
+running_more s phase client i start now after done items d next x kept few most low one is =
     let commands = commands_of s phase client in
     let c = get_or commands i d in
     let cut = cut_all (away_of c.act) now in
-    let left = acts_left c.line c.act next.outcome next.parts cut after (filed_cut (away_of c.act) now (filed now kept))
+    let many = length-map now (did (cut_off (away_of c.act))) in
+    let left = acts_left s.policy c.line c.act next.outcome next.parts cut after few (omega arith) (filed_cut (away_of c.act) now (filed now kept))
     (idle_cut (away_of c.act) now x.idle) one.acts in
     let more : suc i ≡ i + 1 = omega arith in
     let front = sym (take-suc commands i d low) ∙ ap (λ k. take k commands) more in
@@ -249,7 +312,7 @@ running_more s phase client i start now after done items d next x kept low one i
 
 -- ---- what the next command finds
 
-few_files : (xs : List Actor) (s : Script) (phase : ℕ) → All IsKept xs → AreFiles s phase (facts_in xs) → length xs
+pub few_files : (xs : List Actor) (s : Script) (phase : ℕ) → All IsKept xs → AreFiles s phase (facts_in xs) → length xs
     ≤ 128
 few_files xs s phase kept files = elim (cases_lt 128 (length xs)) [
   | inl more ↦
@@ -307,7 +370,35 @@ finds_there text s phase client i start now d is has files kept idle same low =
       idle = idle;
       few = few_files now s phase kept here;
       file = λ n e. subst (λ (o : Option ℕ). IfSome o (λ file. file < length s.files)) e
-          (command_knows text s phase client i d is low);
+          (command_knows text s phase client i d is low).0;
+      policy = λ e. has_policy text s is (subst (IsPolicied s.policy) e (command_knows text s phase client i d is low).1);
       lines = λ server e. lines_all c.line server (losses_of s phase) (facts_in now)
           (losses_same s phase (facts_in now) here) (lose_listed s phase client i server d has low e);
     }
+
+pub few_policy : (text : List ℕ) (s : Script) → IsScript text s → IsFewPolicy s.policy
+few_policy text s is = by_policy s.policy refl
+  where
+    by_policy : (policy : Option (List ℕ)) → s.policy ≡ policy → IsFewPolicy policy
+    by_policy None e = tt
+    by_policy (Some thresholds) e =
+        let has = has_policy text s is (ap is_some e) in
+        let few = has.few in
+        let same : thresholds ≡ has.thresholds = let z : Some thresholds ≡ Some has.thresholds = sym e ∙ has.is in cc in
+        let long = ap length same in omega arith
+
+pub family_all : (s : Script) (phase : ℕ) (xs : List Actor) → AreFiles s phase (facts_in xs)
+    → AreOfFamily (family_of s).shape (family_of s).points xs
+family_all s phase xs files k d low = by_line s.files refl
+  where
+    by_line : (ls : List FileLine) → ls ≡ s.files
+        → IsOfFamily (family_of s).shape (family_of s).points (get_or xs k d).facts.book
+    by_line [] e = absurd (let n = ap length e in let m = files.count in let o = length-map xs (λ (a : Actor). a.facts) in
+        omega arith)
+    by_line (l ∷ ls) e =
+        let m = files.count in
+        let o = length-map xs (λ (a : Actor). a.facts) in
+        let is = files.each k (get_or s.files k l) (get_or (facts_in xs) k d.facts)
+        (slice_get-get_or s.files k l (omega arith)) (slice_get-get_or (facts_in xs) k d.facts (omega arith)) in
+        subst (λ (f : Facts). IsOfFamily (family_of s).shape (family_of s).points f.book)
+        (get_or-map (λ (a : Actor). a.facts) xs k d d.facts low) is.family

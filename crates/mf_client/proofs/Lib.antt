@@ -7,5 +7,9 @@ pub mod Halves
 pub mod Listing
 pub mod Losses
 pub mod Numbered
+pub mod Turns
+pub mod Visiting
+pub mod Dues
 pub mod Commands
+pub mod OnceSwept
 pub mod Once

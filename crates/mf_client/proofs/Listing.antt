@@ -13,12 +13,11 @@ use Rattle.mf_lines.specs.declared.parts.Act.{Act}
 use Rattle.mf_lines.specs.declared.parts.Act.TheVariants as act
 use Rattle.mf_lines.specs.declared.parts.Client.{Client}
 use Rattle.mf_lines.specs.declared.parts.Command.{Command}
-use Rattle.mf_lines.specs.declared.parts.Item.{Item}
-use Rattle.mf_lines.specs.declared.parts.Item.TheVariants as item
-use Rattle.mf_lines.specs.Meaning.{Script}
-use Rattle.mf_script.specs.Losses.{lost_by, client_losses, item_losses, losses_of}
+use Rattle.mf_lines.specs.Meaning.{Script, phases_in}
+use Rattle.mf_script.specs.Losses.{lost_by, client_losses, phase_losses, losses_of}
+use Rattle.mf_script.specs.Phases.{clients_of}
 use Rattle.mf_vault.specs.Facts.{lines}
-use Rattle.mf_client.specs.Clients.{phases_in, clients_of, commands_of, HasClient}
+use Rattle.mf_client.specs.Clients.{commands_of, HasClient}
 
 module _ (l s : ℕ) where
   here : List LoseLine → ℕ
@@ -43,27 +42,6 @@ module _ (l s : ℕ) where
       (let b = bit_is s s refl in
       let c = cond-true (l == l) (bit s s) 0 (Rattle.std.proofs.Common.eq-eqb l l refl) in omega arith))
 
--- the items of the phases, and where a phase stands
-pub phases_low : (items : List Item) → length (phases_in items) ≡ length items
-phases_low [] = refl
-phases_low (item.Phase cs ∷ items) = ap suc (phases_low items)
-
--- the clients of a phase
-the_clients : (xs ys : List Client) → item.Phase xs ≡ item.Phase ys → xs ≡ ys
-the_clients xs ys e = let z : item.Phase xs ≡ item.Phase ys = e in cc
-
-pub phase_clients : (items : List Item) (i : ℕ) (d : Item) (clients : List Client) → i < length items
-    → get_or items i d ≡ item.Phase clients → get_or (phases_in items) i [] ≡ clients
-phase_clients [] i d clients low e = absurd (omega arith)
-phase_clients (item.Phase cs ∷ items) zero d clients low e = the_clients cs clients e
-phase_clients (item.Phase cs ∷ items) (suc i) d clients low e = phase_clients items i d clients (omega arith) e
-
-phase_losses : (items : List Item) (i : ℕ) (d : Item)
-    → i < length items → item_losses (get_or items i d) ≡ flat_map client_losses (get_or (phases_in items) i [])
-phase_losses [] i d low = absurd (omega arith)
-phase_losses (item.Phase cs ∷ items) zero d low = refl
-phase_losses (item.Phase cs ∷ items) (suc i) d low = phase_losses items i d (omega arith)
-
 pub lose_listed : (s : Script) (phase client i server : ℕ) (d : Command) → HasClient s phase client
     → i < length (commands_of s phase client)
     → (get_or (commands_of s phase client) i d).act ≡ act.Lose server
@@ -72,18 +50,15 @@ lose_listed s phase client i server d has low is =
     let c = get_or (commands_of s phase client) i d in
     let l = c.line in
     let bare : Client = record { commands = [] } in
-    let some : Item = item.Phase [] in
+    let phases = phases_in s.items in
     let one = one_here l server l c.act refl is in
     let by_command = here_all l server (λ (command : Command). lost_by command.line command.act)
     (commands_of s phase client) i d low in
     let by_client = here_all l server client_losses (clients_of s phase) (client - 1) bare
     (let x = has.clients.0 in let y = has.clients.1 in omega arith) in
-    let long = phases_low s.items in
-    let within : phase - 1 < length s.items = let x = has.phases.0 in let y = has.phases.1 in omega arith in
-    let front = length-take phase s.items in
-    let by_phase = here_all l server item_losses (take phase s.items) (phase - 1) some
+    let front = length-take phase phases in
+    let by_phase = here_all l server phase_losses (take phase phases) (phase - 1) []
     (let x = has.phases.0 in let y = has.phases.1 in omega arith) in
-    let at = get_or-take phase s.items (phase - 1) some (let x = has.phases.0 in omega arith) in
-    let same = ap (λ x. listed l server (lines (item_losses x))) at
-    ∙ ap (λ x. listed l server (lines x)) (phase_losses s.items (phase - 1) some within) in
+    let at = get_or-take phase phases (phase - 1) [] (let x = has.phases.0 in omega arith) in
+    let same = ap (λ x. listed l server (lines (phase_losses x))) at in
     omega arith

@@ -1,8 +1,9 @@
 -- Where the whole state is told, a client's commands have one result.
-use Rattle.std.proofs.Common.{◌≡◌, ◌≢◌, ℕ, zero, suc, ◌+◌, ◌-◌, Option, Bool, true, false, List, [], ◌∷◌, length}
+use Rattle.std.proofs.Common.{◌≡◌, ◌≢◌, ℕ, ◌+◌, ◌-◌, Option, Bool, false, List, [], ◌∷◌, length}
 use Rattle.std.proofs.Common.{filter}
-use Rattle.std.proofs.Common.{refl, sym, ap, ◌∙◌, subst, arith, Some, None, All}
-use Rattle.std.specs.Prelude.{slice_get, slice_set, Vec}
+use Rattle.std.proofs.Common.{refl, sym, ap, ◌∙◌, subst, arith, Some, All}
+use Rattle.std.specs.Prelude.{slice_set, Vec}
+use Rattle.std.specs.List.{list_any}
 use Rattle.std.specs.Global.{Global}
 use Rattle.std.proofs.lemmas.Bool.{or_parts}
 use Rattle.std.proofs.lemmas.List.Elements.{All-head, All-tail, All-cons, All-nil, All-set}
@@ -22,7 +23,6 @@ use Rattle.mf_vault.specs.Answers.{Goes}
 use Rattle.mf_vault.specs.Licence.{Does, did_all}
 use Rattle.mf_vault.proofs.Once.{one_answer}
 use Rattle.mf_convert.specs.declared.change.Change.{Change}
-use Rattle.mf_convert.specs.declared.change.Change.TheVariants as change
 use Rattle.mf_convert.specs.Create.{Creates}
 use Rattle.mf_convert.specs.Remove.{Removes}
 use Rattle.mf_convert.specs.Convert.{Converts}
@@ -46,26 +46,22 @@ use Rattle.mf_client.specs.declared.done.Part.{Part}
 use Rattle.mf_client.specs.declared.done.Place.{Place}
 use Rattle.mf_client.specs.Lacks.{change_lacks, read_lacks, repair_lacks, reclaim_lacks, outcome_lacks}
 use Rattle.mf_client.specs.Acts.{IsCreated, IsRefused, IsReadOut, IsRepaired, IsConverted, IsReclaimed, IsRemoved}
-use Rattle.mf_client.specs.Acts.{IsHeld, IsReleased, Pins, OnFile, ActsOn}
+use Rattle.mf_client.specs.Acts.{IsHeld, IsReleased, Pins, ActsOn}
+use Rattle.mf_client.specs.OnFile.{OnFile}
 use Rattle.mf_client.specs.Acts.{Acts, loses, LosesIn, LosesAll, IsLost, lists_on, away_of, cut_all}
 use Rattle.mf_client.specs.Steps.{Comes}
 use Rattle.mf_client.specs.Laws.{IsWhole, HadMemory, RunsOnce}
 use Rattle.mf_client.specs.Runs.{IsDone, RunsFrom, io_gained}
 use Rattle.mf_client.proofs.Went.{whole_on, whole_all, refused_reads, comes_does}
+use Rattle.mf_client.proofs.OnceSwept.{true_false, had_change, some_is, at_whole, swept_by_once, swept_by_whole}
 
 -- two results are the same
 abbrev Same : Outcome → Outcome → Actor → Actor → Type 0
 Same o p b c = (o ≡ p) × (b ≡ c)
 
-true_false : true ≡ false → ⊥
-true_false e = let z : true ≡ false = e in cc
-
 -- the same calls lead to the same actor
 same : {cs ds : List Call} {a b c : Actor} → cs ≡ ds → Does cs a b → Does ds a c → b ≡ c
 same {a = a} e x y = x.becomes ∙ (ap (λ l. did_all l a) e ∙ sym y.becomes)
-
-had_change : (x : Change) → change_lacks x ≡ false → x ≢ change.Memory
-had_change x had e = true_false (sym (ap change_lacks e) ∙ had)
 
 had_read : (x : ReadOutcome) → read_lacks x ≡ false → x ≢ read.Memory
 had_read x had e = true_false (sym (ap read_lacks e) ∙ had)
@@ -332,14 +328,6 @@ lost_once server line other p before after others w x y had also = absurd x
 
 -- ---- any command
 
-some_is : {X : Type 0} (x y : X) → Some x ≡ Some y → x ≡ y
-some_is x y e = let z : Some x ≡ Some y = e in cc
-
-at_whole : (xs : List Actor) (n : ℕ) (a : Actor) → All IsWhole xs → slice_get xs n ≡ Some a → IsWhole a
-at_whole [] n a w e = absurd (let z : None ≡ Some a = e in cc)
-at_whole (x ∷ xs) zero a w e = subst IsWhole (some_is x a e) (All-head IsWhole x xs w)
-at_whole (x ∷ xs) (suc n) a w e = at_whole xs n a (All-tail IsWhole x xs w) e
-
 on_once : (n : ℕ) (R S : Actor → Actor → Type 0) (o p : Outcome) (ps qs : List Part) (before after others : List Actor)
     → ((a b c : Actor) → IsWhole a → R a b → S a c → Same o p b c)
     → All IsWhole before → ActsOn n R ps before after → ActsOn n S qs before others
@@ -349,36 +337,40 @@ on_once n R S o p ps qs before after others once w (none, x) (also, y) =
     let r = once y.old x.new y.new (at_whole before n y.old w y.was) (subst (λ z. R z x.new) e x.goes) y.goes in
     (r.0, none ∙ sym also, x.is ∙ ap (slice_set before n) r.1 ∙ sym y.is)
 
-acts_once : (line : ℕ) (x : Act) (o p : Outcome) (ps qs : List Part) (before after others : List Actor)
-    → All IsWhole before → Acts line x o ps before after → Acts line x p qs before others → outcome_lacks o ≡ false
-    → outcome_lacks p ≡ false → (o ≡ p) × (ps ≡ qs) × (after ≡ others)
-acts_once line (act.Create file) o p ps qs before after others w x y had also =
+acts_once : (policy : Option (List ℕ)) (line : ℕ) (x : Act) (o p : Outcome) (ps qs : List Part)
+    (before after others : List Actor) → All IsWhole before → Acts policy line x o ps before after
+    → Acts policy line x p qs before others → outcome_lacks o ≡ false
+    → list_any (λ (part : Part). change_lacks part.change) ps ≡ false → outcome_lacks p ≡ false
+    → list_any (λ (part : Part). change_lacks part.change) qs ≡ false → (o ≡ p) × (ps ≡ qs) × (after ≡ others)
+acts_once policy line (act.Create file) o p ps qs before after others w x y had parts also both =
     on_once file (IsCreated o) (IsCreated p) o p ps qs before after others
     (λ a b c i m n. created_once o p a b c i m n had also) w x y
-acts_once line (act.Read file away) o p ps qs before after others w x y had also =
+acts_once policy line (act.Read file away) o p ps qs before after others w x y had parts also both =
     on_once file (IsReadOut o) (IsReadOut p) o p ps qs before after others
     (λ a b c i m n. read_once o p a b c i m n had also) w x y
-acts_once line (act.Repair file away) o p ps qs before after others w x y had also =
+acts_once policy line (act.Repair file away) o p ps qs before after others w x y had parts also both =
     on_once file (IsRepaired o) (IsRepaired p) o p ps qs before after others
     (λ a b c i m n. repaired_once o p a b c i m n had also) w x y
-acts_once line (act.Convert file away stop) o p ps qs before after others w x y had also =
+acts_once policy line (act.Convert file away stop) o p ps qs before after others w x y had parts also both =
     on_once file (IsConverted stop o) (IsConverted stop p) o p ps qs before after others
     (λ a b c i m n. converted_once stop o p a b c i m n had also) w x y
-acts_once line (act.Reclaim file) o p ps qs before after others w x y had also =
+acts_once policy line (act.Reclaim file) o p ps qs before after others w x y had parts also both =
     on_once file (IsReclaimed o) (IsReclaimed p) o p ps qs before after others
     (λ a b c i m n. reclaimed_once o p a b c i m n had also) w x y
-acts_once line (act.Remove file) o p ps qs before after others w x y had also =
+acts_once policy line (act.Remove file) o p ps qs before after others w x y had parts also both =
     on_once file (IsRemoved o) (IsRemoved p) o p ps qs before after others
     (λ a b c i m n. removed_once o p a b c i m n) w x y
-acts_once line (act.Hold file) o p ps qs before after others w x y had also =
+acts_once policy line (act.Hold file) o p ps qs before after others w x y had parts also both =
     on_once file (IsHeld o) (IsHeld p) o p ps qs before after others
     (λ a b c i m n. held_once o p a b c i m n) w x y
-acts_once line (act.Release file) o p ps qs before after others w x y had also =
+acts_once policy line (act.Release file) o p ps qs before after others w x y had parts also both =
     on_once file (IsReleased o) (IsReleased p) o p ps qs before after others
     (λ a b c i m n. released_once o p a b c m n) w x y
-acts_once line (act.Lose server) o p ps qs before after others w x y had also =
+acts_once policy line (act.Lose server) o p ps qs before after others w x y had parts also both =
     let r = lost_once server line o p before after others w x.1 y.1 had also in
     (r.0, x.0 ∙ sym y.0, r.1)
+acts_once policy line act.Sweep o p ps qs before after others w x y had parts also both =
+    swept_by_once policy o p ps qs before after others w x y had parts also both
 
 -- ---- the whole states after a command
 
@@ -411,20 +403,22 @@ lose_whole server line (outcome.Lost n) before after w x =
 lose_whole server line outcome.Memory before after w x = subst (All IsWhole) (sym x) w
 lose_whole server line other before after w x = absurd x
 
-acts_whole : (line : ℕ) (x : Act) (o : Outcome) (parts : List Part) (before after : List Actor) → All IsWhole before
-    → Acts line x o parts before after → All IsWhole after
-acts_whole line (act.Create file) o parts before after w x = on_whole (act.Create file) o file before after w x.1
-acts_whole line (act.Read file away) o parts before after w x = on_whole (act.Read file away) o file before after w x.1
-acts_whole line (act.Repair file away) o parts before after w x =
+acts_whole : (policy : Option (List ℕ)) (line : ℕ) (x : Act) (o : Outcome) (parts : List Part)
+    (before after : List Actor) → All IsWhole before
+    → Acts policy line x o parts before after → All IsWhole after
+acts_whole policy line (act.Create file) o parts before after w x = on_whole (act.Create file) o file before after w x.1
+acts_whole policy line (act.Read file away) o parts before after w x = on_whole (act.Read file away) o file before after w x.1
+acts_whole policy line (act.Repair file away) o parts before after w x =
     on_whole (act.Repair file away) o file before after w x.1
-acts_whole line (act.Convert file away stop) o parts before after w x =
+acts_whole policy line (act.Convert file away stop) o parts before after w x =
     on_whole (act.Convert file away stop) o file before after w x.1
-acts_whole line (act.Reclaim file) o parts before after w x =
+acts_whole policy line (act.Reclaim file) o parts before after w x =
     on_whole (act.Reclaim file) o file before after w x.1
-acts_whole line (act.Remove file) o parts before after w x = on_whole (act.Remove file) o file before after w x.1
-acts_whole line (act.Hold file) o parts before after w x = on_whole (act.Hold file) o file before after w x.1
-acts_whole line (act.Release file) o parts before after w x = on_whole (act.Release file) o file before after w x.1
-acts_whole line (act.Lose server) o parts before after w x = lose_whole server line o before after w x.1
+acts_whole policy line (act.Remove file) o parts before after w x = on_whole (act.Remove file) o file before after w x.1
+acts_whole policy line (act.Hold file) o parts before after w x = on_whole (act.Hold file) o file before after w x.1
+acts_whole policy line (act.Release file) o parts before after w x = on_whole (act.Release file) o file before after w x.1
+acts_whole policy line (act.Lose server) o parts before after w x = lose_whole server line o before after w x.1
+acts_whole policy line act.Sweep o parts before after w x = swept_by_whole policy o parts before after w x
 
 -- ---- a client's commands
 
@@ -432,9 +426,10 @@ done_once : (s : Script) (at : Place) (c : Command) (d e : Done) (before after o
     → All IsWhole before → IsDone s at c d before after → IsDone s at c e before others → HadMemory d → HadMemory e
     → (d ≡ e) × (after ≡ others)
 done_once s at c d e before after others w x y had also =
-    let r = acts_once c.line c.act d.outcome e.outcome d.parts e.parts (cut_all (away_of c.act) before) after others
-    (cut_whole (away_of c.act) before w) x.acts y.acts (or_parts (outcome_lacks d.outcome) _ had).0
-    (or_parts (outcome_lacks e.outcome) _ also).0 in
+    let mine = or_parts (outcome_lacks d.outcome) _ had in
+    let others_had = or_parts (outcome_lacks e.outcome) _ also in
+    let r = acts_once s.policy c.line c.act d.outcome e.outcome d.parts e.parts (cut_all (away_of c.act) before) after
+    others (cut_whole (away_of c.act) before w) x.acts y.acts mine.0 mine.1 others_had.0 others_had.1 in
     let place = x.place ∙ sym y.place in
     let same_act = x.act ∙ sym y.act in
     let io = x.io ∙ ap (io_gained before) r.2 ∙ sym y.io in
@@ -454,7 +449,7 @@ runs_once s phase client n (c ∷ commands) before after others (d ∷ ds) (e �
     let one = done_once s at c d e before mid also_mid w x y (All-head HadMemory d ds had) (All-head HadMemory e es
     also) in
     let all = runs_once s phase client (n + 1) commands mid after others ds es
-    (acts_whole c.line c.act d.outcome d.parts (cut_all (away_of c.act) before) mid
+    (acts_whole s.policy c.line c.act d.outcome d.parts (cut_all (away_of c.act) before) mid
     (cut_whole (away_of c.act) before w) x.acts) xs
     (subst (λ (l : List Actor). RunsFrom s phase client (n + 1) commands l es others) (sym one.1) ys)
     (All-tail HadMemory d ds had) (All-tail HadMemory e es also) in

@@ -158,6 +158,7 @@ comes_went (act.Remove file) o book idle x = removed_went o idle x
 comes_went (act.Hold file) o book idle x = held_went o idle x
 comes_went (act.Release file) o book idle x = released_went o idle x
 comes_went (act.Lose server) o book idle x = absurd x
+comes_went act.Sweep o book idle x = absurd x
 
 -- what the ledger gained
 pub gained_is : {cs : List Call} {a b : Actor} → Does cs a b → gained a b ≡ entries_of cs
@@ -221,3 +222,4 @@ comes_does (act.Remove file) o x = removed_does o x
 comes_does (act.Hold file) o x = held_does o x
 comes_does (act.Release file) o x = released_does o x
 comes_does (act.Lose server) o x = absurd x
+comes_does act.Sweep o x = absurd x

@@ -1,6 +1,6 @@
 -- What one command does.
-use Rattle.std.specs.Prelude.{◌≡◌, ℕ, ◌+◌, ◌-◌, Bool, List, [], ◌∷◌, length, map, filter, slice_get, slice_set}
-use Rattle.std.specs.Prelude.{Option, Some}
+use Rattle.std.specs.Prelude.{◌≡◌, ℕ, ◌+◌, ◌-◌, Bool, List, [], ◌∷◌, length, map, filter}
+use Rattle.std.specs.Prelude.{Option, Some, None}
 use Rattle.std.specs.declared.vec.Vec.{Vec}
 use Rattle.std.specs.declared.alloc.Global.{Global}
 use Rattle.sha2.specs.Sha256.{sha256}
@@ -28,6 +28,8 @@ use Rattle.mf_reclaim.specs.Reclaim.{Reclaims}
 use Rattle.mf_client.specs.declared.done.Outcome.{Outcome}
 use Rattle.mf_client.specs.declared.done.Outcome.TheVariants as outcome
 use Rattle.mf_client.specs.declared.done.Part.{Part}
+use Rattle.mf_client.specs.OnFile.{OnFile}
+use Rattle.mf_client.specs.Sweeps.{IsSwept}
 
 -- ---- the servers that can't be reached
 
@@ -138,26 +140,25 @@ IsLost server line other before after = ⊥
 
 -- ---- any command
 
--- a command on this file took its actor from one to the other, and left the actors of the other files as they were
-pub record OnFile (file : ℕ) (Goes : Actor → Actor → Type 0) (before after : List Actor) : Type 0 where
-  pub old : Actor
-  pub new : Actor
-  pub was : slice_get before file ≡ Some old
-  pub goes : Goes old new
-  pub is : after ≡ slice_set before file new
-
 -- such a command has no parts
 abbrev pub ActsOn : (file : ℕ) → (Actor → Actor → Type 0) → List Part → List Actor → List Actor → Type 0
 ActsOn file Goes parts before after = (parts ≡ []) × OnFile file Goes before after
 
--- what the command in this line of the script did, behind the cutting off
-abbrev pub Acts : (line : ℕ) → Act → Outcome → List Part → List Actor → List Actor → Type 0
-Acts line (act.Create file) came parts before after = ActsOn file (IsCreated came) parts before after
-Acts line (act.Read file away) came parts before after = ActsOn file (IsReadOut came) parts before after
-Acts line (act.Repair file away) came parts before after = ActsOn file (IsRepaired came) parts before after
-Acts line (act.Convert file away stop) came parts before after = ActsOn file (IsConverted stop came) parts before after
-Acts line (act.Reclaim file) came parts before after = ActsOn file (IsReclaimed came) parts before after
-Acts line (act.Remove file) came parts before after = ActsOn file (IsRemoved came) parts before after
-Acts line (act.Hold file) came parts before after = ActsOn file (IsHeld came) parts before after
-Acts line (act.Release file) came parts before after = ActsOn file (IsReleased came) parts before after
-Acts line (act.Lose server) came parts before after = (parts ≡ []) × IsLost server line came before after
+-- what a sweep by this policy did; there is none without a policy
+abbrev pub SweepsBy : (policy : Option (List ℕ)) → Outcome → List Part → List Actor → List Actor → Type 0
+SweepsBy None came parts before after = ⊥
+SweepsBy (Some thresholds) came parts before after = IsSwept thresholds came parts before after
+
+-- what the command in this line of a script with this policy did, behind the cutting off
+abbrev pub Acts : (policy : Option (List ℕ)) → (line : ℕ) → Act → Outcome → List Part → List Actor → List Actor → Type 0
+Acts policy line (act.Create file) came parts before after = ActsOn file (IsCreated came) parts before after
+Acts policy line (act.Read file away) came parts before after = ActsOn file (IsReadOut came) parts before after
+Acts policy line (act.Repair file away) came parts before after = ActsOn file (IsRepaired came) parts before after
+Acts policy line (act.Convert file away stop) came parts before after =
+    ActsOn file (IsConverted stop came) parts before after
+Acts policy line (act.Reclaim file) came parts before after = ActsOn file (IsReclaimed came) parts before after
+Acts policy line (act.Remove file) came parts before after = ActsOn file (IsRemoved came) parts before after
+Acts policy line (act.Hold file) came parts before after = ActsOn file (IsHeld came) parts before after
+Acts policy line (act.Release file) came parts before after = ActsOn file (IsReleased came) parts before after
+Acts policy line (act.Lose server) came parts before after = (parts ≡ []) × IsLost server line came before after
+Acts policy line act.Sweep came parts before after = SweepsBy policy came parts before after

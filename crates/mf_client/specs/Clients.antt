@@ -1,28 +1,18 @@
 -- A client of a script, and the files that it finds.
-use Rattle.std.specs.Prelude.{◌≡◌, ℕ, ◌-◌, ◌≤◌, List, [], ◌∷◌, length, map, slice_get, slice_index_or, Some}
+use Rattle.std.specs.Prelude.{◌≡◌, ℕ, ◌-◌, ◌≤◌, List, [], length, map, slice_get, slice_index_or, Some}
 use Rattle.mf_check.specs.Families.{Code}
-use Rattle.mf_lines.specs.declared.parts.Client.{Client}
 use Rattle.mf_lines.specs.declared.parts.Command.{Command}
 use Rattle.mf_lines.specs.declared.parts.FileLine.{FileLine}
-use Rattle.mf_lines.specs.declared.parts.Item.{Item}
-use Rattle.mf_lines.specs.declared.parts.Item.TheVariants as item
-use Rattle.mf_lines.specs.Meaning.{Script, main_of}
+use Rattle.mf_lines.specs.Meaning.{Script, main_of, phases_in}
 use Rattle.mf_script.specs.Contents.{bytes_in}
 use Rattle.mf_script.specs.Losses.{losses_of}
+use Rattle.mf_script.specs.Phases.{clients_of}
 use Rattle.mf_script.specs.Scripts.{code_of}
 use Rattle.mf_vault.specs.Facts.{Facts}
 use Rattle.mf_vault.specs.Actor.{Actor}
 use Rattle.mf_vault.specs.Conditions.{IsOfFamily}
 
--- the phases among these items, each with its clients
-abbrev pub phases_in : List Item → List (List Client)
-phases_in [] = []
-phases_in (item.Phase clients ∷ items) = clients ∷ phases_in items
-
--- the clients of a phase, and the commands of one of these; phases and clients are numbered from 1
-abbrev pub clients_of : Script → (phase : ℕ) → List Client
-clients_of s phase = slice_index_or (phases_in s.items) (phase - 1) []
-
+-- the commands of a client of a phase; clients are numbered from 1
 abbrev pub commands_of : Script → (phase client : ℕ) → List Command
 commands_of s phase client = (slice_index_or (clients_of s phase) (client - 1) (record { commands = [] })).commands
 

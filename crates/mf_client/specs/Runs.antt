@@ -35,7 +35,7 @@ pub record IsSmall (io : Io) : Type 0 where
 pub record IsDone (s : Script) (at : Place) (command : Command) (done : Done) (before after : List Actor) : Type 0 where
   pub place : done.place ≡ at
   pub act : done.act ≡ command.act
-  pub acts : Acts command.line command.act done.outcome done.parts (cut_all (away_of command.act) before) after
+  pub acts : Acts s.policy command.line command.act done.outcome done.parts (cut_all (away_of command.act) before) after
   pub io : done.io ≡ io_gained before after
 
 -- commands in turn, of which the first has this number

@@ -1,7 +1,8 @@
 -- What the parts of a run do.
-use Rattle.std.specs.Prelude.{◌≡◌, ℕ, ◌<◌, ◌≤◌, List, [], ◌∷◌, length, map, take, All, Some, Vec}
+use Rattle.std.specs.Prelude.{◌≡◌, ℕ, ◌<◌, ◌≤◌, true, List, [], ◌∷◌, ◌++◌, length, map, take, All, Some, Vec}
 use Rattle.std.specs.Global.{Global}
 use Rattle.mf_machine.specs.File.{listed}
+use Rattle.mf_shape.specs.Chain.{Chain}
 use Rattle.mf_places.specs.declared.Name.{Name}
 use Rattle.mf_lines.specs.declared.parts.Act.{Act}
 use Rattle.mf_lines.specs.declared.parts.Act.TheVariants as act
@@ -9,14 +10,17 @@ use Rattle.mf_lines.specs.declared.parts.Command.{Command}
 use Rattle.mf_lines.specs.Meaning.{Script, file_in}
 use Rattle.mf_vault.specs.Facts.{Facts, lines}
 use Rattle.mf_vault.specs.Actor.{Actor}
-use Rattle.mf_vault.specs.Conditions.{IsIdle}
+use Rattle.mf_vault.specs.Conditions.{IsIdle, IsOfFamily}
 use Rattle.mf_vault.specs.May.{MayLose}
+use Rattle.mf_convert.specs.declared.change.Change.{Change}
 use Rattle.mf_client.specs.declared.done.Outcome.{Outcome}
+use Rattle.mf_client.specs.declared.done.Part.{Part}
 use Rattle.mf_client.specs.declared.done.Done.{Done}
-use Rattle.mf_client.specs.Clients.{AreFiles, facts_in, commands_of}
+use Rattle.mf_client.specs.Clients.{AreFiles, facts_in, commands_of, family_of}
 use Rattle.mf_client.specs.Acts.{IsCreated, IsReadOut, IsRepaired, IsConverted, IsReclaimed}
 use Rattle.mf_client.specs.Acts.{IsRemoved, IsHeld, IsReleased}
 use Rattle.mf_client.specs.Runs.{RunsFrom, IsSmall}
+use Rattle.mf_client.specs.Sweeps.{Visit, ConvertsInTurn, Visits, VisitsInTurn, is_converted, parts_of, parts_in, dues_of}
 
 -- what came of a command on one file
 abbrev pub Comes : Act → Outcome → Actor → Actor → Type 0
@@ -29,12 +33,21 @@ Comes (act.Remove file) came = IsRemoved came
 Comes (act.Hold file) came = IsHeld came
 Comes (act.Release file) came = IsReleased came
 Comes (act.Lose server) came = λ a b. ⊥
+Comes act.Sweep came = λ a b. ⊥
 
 -- the line is a lose line of the server, up to the end of the phase
 abbrev pub IsLine : (line server : ℕ) → Facts → Type 0
 IsLine line server f = 0 < listed line server (lines f.losses)
 
--- a command finds the files of its phase: its file is one of the script's, or its line is a lose line of its server
+-- the script has a policy, with a threshold for each stage of its family
+pub record HasPolicy (s : Script) : Type 0 where
+  pub thresholds : List ℕ
+  pub is : s.policy ≡ Some thresholds
+  pub long : length thresholds ≡ length (family_of s).shape.stages
+  pub few : length thresholds ≤ 4
+
+-- a command finds the files of its phase: its file is one of the script's, its line is a lose line of its server, or
+-- the script has a policy
 pub record Finds (s : Script) (command : Command) (actors : List Actor) : Type 0 where
   pub phase : ℕ
   pub files : AreFiles s phase (facts_in actors)
@@ -42,6 +55,7 @@ pub record Finds (s : Script) (command : Command) (actors : List Actor) : Type 0
   pub few : length actors ≤ 128
   pub file : (n : ℕ) → file_in command.act ≡ Some n → n < length s.files
   pub lines : (server : ℕ) → command.act ≡ act.Lose server → All (IsLine command.line server) (facts_in actors)
+  pub policy : command.act ≡ act.Sweep → HasPolicy s
 
 -- ---- names that are lost
 
@@ -75,3 +89,40 @@ pub record IsRunning (s : Script) (phase client i : ℕ) (start : List Actor) (d
   pub small : All (λ (d : Done). IsSmall d.io) done
   pub idle : All IsIdle now
   pub facts : facts_in now ≡ facts_in start
+
+-- ---- a sweep on its way
+
+-- each of these changes published a generation
+abbrev pub AreConverted : List Change → Type 0
+AreConverted [] = Unit {0}
+AreConverted (c ∷ cs) = (is_converted c ≡ true) × AreConverted cs
+
+-- the first i conversions of a file that is due for this stage published a generation each. They led from one actor to
+-- the other, and were told behind the parts before
+pub record Converting (file due i : ℕ) (a b : Actor) (before after : List Part) : Type 0 where
+  pub changes : List Change
+  pub turn : ConvertsInTurn due changes a b
+  pub converted : AreConverted changes
+  pub count : length changes ≡ i
+  pub told : after ≡ before ++ parts_of file changes
+
+-- a visit to a file that is due for this stage led from one actor to the other, and was told behind the parts before
+pub record Visited (file due : ℕ) (a b : Actor) (before after : List Part) : Type 0 where
+  pub changes : List Change
+  pub visits : Visits (record { file = file; due = due; changes = changes }) a b
+  pub told : after ≡ before ++ parts_of file changes
+
+-- the files of these actors are of the family
+abbrev pub AreOfFamily : Chain → (points : List ℕ) → List Actor → Type 0
+AreOfFamily chain points actors = All (λ (a : Actor). IsOfFamily chain points a.facts.book) actors
+
+-- these are files, each with a stage
+abbrev pub AreDue : (files stages : ℕ) → List (ℕ × ℕ) → Type 0
+AreDue files stages dues = All (λ (d : ℕ × ℕ). (d.0 < files) × (d.1 < stages)) dues
+
+-- these files were visited in turn, which led from these actors to those, and was told behind the parts before
+pub record VisitedAll (dues : List (ℕ × ℕ)) (before after : List Actor) (first last : List Part) : Type 0 where
+  pub visits : List Visit
+  pub due : dues_of visits ≡ dues
+  pub turn : VisitsInTurn visits before after
+  pub told : last ≡ first ++ parts_in visits

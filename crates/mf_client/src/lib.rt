@@ -2,12 +2,14 @@
 #![tactic(auto)]
 
 mod acting;
+mod came;
 mod done;
 mod finding;
 mod lacks;
 mod laws;
 mod losing;
 mod running;
+mod sweeping;
 mod turnstile;
 
 pub use done::{Done, Outcome, Part, Parts, Place};

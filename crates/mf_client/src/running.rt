@@ -1,41 +1,32 @@
 //! A client's commands, run.
 
-ghost use Rattle.std.specs.Prelude.{◌≡◌, ◌<◌, ◌≤◌, ℕ, [], ◌∷◌, ◌++◌, All, map, drop, length, Some};
-ghost use Rattle.std.specs.Prelude.{IfOk, OnErr, vec_capacity};
+ghost use Rattle.std.specs.Prelude.{◌≡◌, ◌≤◌, ℕ, [], All, map, length, Some, IfOk, OnErr};
 ghost use Rattle.mf_lines.specs.Meaning.{file_in};
 ghost use Rattle.mf_script.specs.Contents.{bytes_in};
 ghost use Rattle.mf_vault.specs.Actor.{Actor};
 ghost use Rattle.mf_vault.specs.Conditions.{IsIdle, IsOfFamily};
 ghost use Rattle.mf_vault.specs.Counting.{io_of};
 ghost use Rattle.mf_client.specs.declared.done.Done.{Done};
-ghost use Rattle.mf_client.specs.Acts.{Acts, OnFile, away_of, cut_all};
-ghost use Rattle.mf_client.specs.Clients.{HasClient, AreFiles, facts_in};
+ghost use Rattle.mf_client.specs.Acts.{Acts, SweepsBy, away_of, cut_all};
+ghost use Rattle.mf_client.specs.OnFile.{OnFile};
+ghost use Rattle.mf_client.specs.Clients.{HasClient, AreFiles, facts_in, family_of};
 ghost use Rattle.mf_client.specs.Runs.{Runs, IsSmall, IsDone, gained, io_gained};
-ghost use Rattle.mf_client.specs.Steps.{Comes, Finds};
+ghost use Rattle.mf_client.specs.Steps.{Comes, Finds, HasPolicy, AreOfFamily};
 
 use crate::acting::{
     convert_file, create_file, hold_file, read_file, reclaim_file, release_file, remove_file,
     repair_file,
 };
+use crate::came::{Came, NOTHING, append, count_from};
 use crate::done::{Done, Outcome, Parts, Place};
 use crate::finding::commands_of;
 use crate::losing::lose_server;
+use crate::sweeping::sweep_files;
 use crate::turnstile::Turnstile;
 use mf_read::Family;
 use mf_script::{Act, Command, Content, Script};
-use mf_vault::{Entry, Fetch, Io, Memory, Servers, count_io};
+use mf_vault::{Fetch, Memory, Servers};
 use std::alloc::Global;
-
-// No operation on chunks.
-const NOTHING: Io = Io {
-    pieces: 0,
-    copies: 0,
-    parities: 0,
-    misses: 0,
-    writes: 0,
-    probes: 0,
-    drops: 0,
-};
 
 // Cuts the servers off in all files.
 fn cut_all<A: Fetch>(accesses: &mut [A], away: Servers)
@@ -44,21 +35,6 @@ fn cut_all<A: Fetch>(accesses: &mut [A], away: Servers)
     for i in 0..accesses.len() {
         accesses[i].cut_off(away);
     }
-}
-
-// What came of a command, and the operations that it took.
-#[derive(Drop)]
-struct Came {
-    outcome: Outcome,
-    io: Io,
-}
-
-// The operations of the entries from number `from` on.
-fn count_from(entries: &[Entry], from: usize) -> Io
-    requires { from ≤ length entries.now }
-    ensures { result ≡ io_of (drop from entries.now) }
-{
-    count_io(&entries[from..])
 }
 
 // What comes of a command on the file of this access, which has this content.
@@ -86,7 +62,7 @@ fn act_on<A: Fetch>(
         Act::Remove(_) => remove_file(access),
         Act::Hold(_) => hold_file(access),
         Act::Release(_) => release_file(access),
-        Act::Lose(_) => unreachable!(),
+        Act::Lose(_) | Act::Sweep => unreachable!(),
     }
 }
 
@@ -105,12 +81,17 @@ fn on_file<A: Fetch>(
     requires bytes { (A.actor access.old).facts.bytes ≡ bytes_in content.now }
     requires reached { (A.actor access.old).cut ≡ away_of act }
     ensures came { Comes act result.outcome (A.actor access.old) (A.actor access.new) }
+    ensures parts { result.parts.items ≡ [] }
     ensures io { result.io ≡ io_of (gained (A.actor access.old) (A.actor access.new)) }
 {
     let from = access.ledger().len();
     let outcome = act_on(alloc, access, family, content, act);
     let io = count_from(access.ledger(), from);
-    Came { outcome, io }
+    Came {
+        outcome,
+        parts: Vec::new(alloc),
+        io,
+    }
 }
 
 // A command on the file of this number, behind the cutting off.
@@ -126,6 +107,7 @@ fn on_numbered<A: Fetch>(
     requires reached { All (λ (a : Actor). a.cut ≡ away_of command.act) (map A.actor accesses.old) }
     ensures came { OnFile file (Comes command.act result.outcome)
         (map A.actor accesses.old) (map A.actor accesses.new) }
+    ensures parts { result.parts.items ≡ [] }
     ensures io { result.io
         ≡ io_gained (map A.actor accesses.old) (map A.actor accesses.new) }
 {
@@ -134,11 +116,30 @@ fn on_numbered<A: Fetch>(
     on_file(alloc, access, script.family(), content, command.act)
 }
 
+// A sweep, behind the cutting off.
+fn sweep<A: Fetch>(alloc: Global, accesses: &mut [A], script: &Script) -> Came
+    requires policy { HasPolicy script.now }
+    requires family { AreOfFamily (family_of script.now).shape (family_of script.now).points
+        (map A.actor accesses.old) }
+    requires idle { All IsIdle (map A.actor accesses.old) }
+    requires few { length accesses.old ≤ 128 }
+    ensures swept { SweepsBy script.now.policy result.outcome result.parts.items
+        (map A.actor accesses.old) (map A.actor accesses.new) }
+    ensures io { result.io
+        ≡ io_gained (map A.actor accesses.old) (map A.actor accesses.new) }
+{
+    let Some(policy) = script.policy() else {
+        unreachable!()
+    };
+    sweep_files(alloc, accesses, script.family(), policy)
+}
+
 // A command, behind the cutting off.
 fn act<A: Fetch>(alloc: Global, accesses: &mut [A], script: &Script, command: Command) -> Came
     requires finds { Finds script.now command (map A.actor accesses.old) }
     requires reached { All (λ (a : Actor). a.cut ≡ away_of command.act) (map A.actor accesses.old) }
-    ensures acts { Acts command.line command.act result.outcome []
+    ensures acts { Acts script.now.policy command.line command.act result.outcome
+        result.parts.items
         (map A.actor accesses.old) (map A.actor accesses.new) }
     ensures io { result.io
         ≡ io_gained (map A.actor accesses.old) (map A.actor accesses.new) }
@@ -154,8 +155,10 @@ fn act<A: Fetch>(alloc: Global, accesses: &mut [A], script: &Script, command: Co
         | Act::Release(file) => on_numbered(alloc, accesses, script, command, file),
         Act::Lose(server) => Came {
             outcome: lose_server(alloc, accesses, server, command.line),
+            parts: Vec::new(alloc),
             io: NOTHING,
         },
+        Act::Sweep => sweep(alloc, accesses, script),
     }
 }
 
@@ -187,19 +190,8 @@ fn run_command<A: Fetch>(
         place,
         act: command.act,
         outcome: came.outcome,
-        parts: Parts::new(Vec::new(alloc)),
+        parts: Parts::new(came.parts),
         io: came.io,
-    }
-}
-
-// Appends within the room that is there.
-fn append(done: &mut Vec<Done>, next: Done)
-    requires { length done.old.items < vec_capacity done.old }
-    ensures items { done.new.items ≡ done.old.items ++ next ∷ [] }
-    ensures capacity { vec_capacity done.old ≤ vec_capacity done.new }
-{
-    if done.push(next).is_err() {
-        unreachable!()
     }
 }
 

@@ -137,7 +137,12 @@ convert_few book (convert.converting missed g o done low k) =
     let a = conversion_few book k in
     let b = length-append done (call.unpin Work ∷ call.end ∷ []) in omega arith
 
+pub entries_low : {upto : ℕ} {stop : Option ℕ} {o : Change} {a b : Actor} → IsBook a.facts.book
+    → (r : Converts upto stop o a b)
+    → length (entries_of r.calls) ≤ 1980005
+entries_low book r = let a = convert_few book r.licence in let b = calls_few r.calls in omega arith
+
 pub entries_few : {upto : ℕ} {stop : Option ℕ} {o : Change} {a b : Actor} → IsBook a.facts.book
     → (r : Converts upto stop o a b)
     → length (entries_of r.calls) < 2 ^ 24
-entries_few book r = let a = convert_few book r.licence in let b = calls_few r.calls in omega arith
+entries_few book r = let a = entries_low book r in omega arith

@@ -1,11 +1,12 @@
 use Rattle.std.proofs.Common.{◌+◌, sym, ap, subst, map, length, arith, get_or, List}
 use Rattle.mf_lines.specs.declared.parts.Act.TheVariants.{Create}
 use Rattle.mf_lines.specs.declared.parts.Command.{Command}
+use Rattle.mf_client.specs.Clients.{AreFiles}
 use Rattle.mf_client.specs.Runs.{IsDone}
 use Rattle.mf_client.specs.Steps.{Finds}
 use Rattle.mf_client.proofs.Numbered.{all_kept}
 use Rattle.mf_client.proofs.Known.{commands_few}
-use Rattle.mf_client.proofs.Commands.{running_more, finds_there}
+use Rattle.mf_client.proofs.Commands.{running_more, finds_there, few_policy, few_files}
 use Rattle.mf_client.proofs.running.run_client.Goals as goal
 
 pub overflow_cast-place : goal.overflow_cast-place
@@ -44,14 +45,18 @@ loop-i-preserved g c =
     let v = c.loop-i.invariant in
     let some : Command = record { line = 0; act = Create 0 } in
     let same = c.commands_of-commands.ensures.value in
+    let kept = c.commands_of-commands.ensures.kept in
     let long = ap length same in
+    let all = all_kept f xs (λ x. g.met.A.Access.kept x) in
     let room = v.capacity in
     let more = c.append.ensures.capacity in
     record {
       running = running_more c.args.script.now c.args.phase c.args.client c.loop-i.i (map f c.args.accesses.now)
           (map f xs)
-          (map f c.run_command.new.accesses) c.loop-i.done.items c.append.new.done.items some c.run_command.result
-          v.running (all_kept f xs (λ x. g.met.A.Access.kept x)) (omega arith)
+          (map f c.run_command.new.accesses) c.loop-i.done.items c.append.new.items.items some c.run_command.result
+          v.running all (few_policy kept.0 c.args.script.now kept.1)
+          (few_files (map f xs) c.args.script.now c.args.phase all
+          (subst (AreFiles c.args.script.now c.args.phase) (sym v.running.facts) c.requires.files)) (omega arith)
           (subst (λ (l : List Command). IsDone c.args.script.now (record {
             phase = c.args.phase;
             client = c.args.client;

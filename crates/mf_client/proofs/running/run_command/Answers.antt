@@ -1,4 +1,4 @@
-use Rattle.std.proofs.Common.{sym, ap, ◌∙◌, ◌≡◌, refl, subst, map, List, All, []}
+use Rattle.std.proofs.Common.{sym, ap, ◌∙◌, ◌≡◌, refl, subst, map, List, All}
 use Rattle.mf_places.specs.declared.servers.Servers.{Servers}
 use Rattle.mf_vault.specs.Actor.{Actor}
 use Rattle.mf_client.specs.declared.done.Part.{Part}
@@ -25,14 +25,15 @@ returns g c =
     let old = map g.A.Access.actor c.args.accesses.now in
     let now = map g.A.Access.actor c.act-came.new.accesses in
     let cut = c.cut_all.ensures ∙ ap (λ (s : Servers). cut_all s old) c.away_of.ensures in
-    let parts = c.new-2.ensures ∙ c.new.ensures.items in
+    let parts = c.new.ensures in
     let o = c.act-came.result.outcome in
     record {
       place = refl;
       act = refl;
-      acts = subst (λ (l : List Part). Acts c.args.command.line c.args.command.act o l
+      acts = subst (λ (l : List Part). Acts c.args.script.now.policy c.args.command.line c.args.command.act o l
           (cut_all (away_of c.args.command.act) old) now) (sym parts)
-          (subst (λ (l : List Actor). Acts c.args.command.line c.args.command.act o [] l now) cut
+          (subst (λ (l : List Actor). Acts c.args.script.now.policy c.args.command.line c.args.command.act o
+          c.act-came.result.parts.items l now) cut
           c.act-came.ensures.acts);
       io = c.act-came.ensures.io ∙ ap (λ l. io_gained l now) cut
           ∙ io_cut (away_of c.args.command.act) old now;

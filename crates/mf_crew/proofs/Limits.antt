@@ -216,8 +216,8 @@ policy_local : (so : SoFar) (ws : List (List ℕ)) (form : Form) → policy_form
 unfolding Local
 policy_local so ws form e =
     let stages = (main_of so.script).stages in
-    let a = bound (refuse (length stages == 0) kind.Arity) _ form e in
-    let b = bound (refuse (not (length ws == length stages)) kind.Arity) _ form a.next in
+    let a = bound (refuse (eqb (length stages) 0) kind.Arity) _ form e in
+    let b = bound (refuse (not (eqb (length ws) (length stages))) kind.Arity) _ form a.next in
     let c = bound (numbers_in ws) _ form b.next in
     let d = bound (within ((list_any (is_above 1000000000) c.value, limit.Tick) ∷ [])) _ form c.next in
     let f = bound (refuse (not (are_thresholds c.value)) kind.Order) (λ _. Ok (says.Policy c.value)) form d.next in

@@ -46,5 +46,6 @@ pub fn run_phase<R: Threads + Wait + Sync, T: Turnstile>(
 {
     // A script's phases have one client each.
     let _ = script.items();
-    run_alone(alloc, files, script, phase, now, turnstile)
+    let ran = run_alone(alloc, files, script, phase, now, turnstile)?;
+    Ok(ran)
 }

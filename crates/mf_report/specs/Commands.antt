@@ -35,10 +35,13 @@ command_text names done = act_text names done.act ++ codes ": " ++ outcome_text 
 abbrev pub done_line : List (List ℕ) → Done → List ℕ
 done_line names done = place_text done.place ++ codes " " ++ command_text names done ++ codes " " ++ io_text done.io
 
+-- a part of a command: the file, and what came of it
+abbrev pub part_text : List (List ℕ) → Part → List ℕ
+part_text names part = name_at names part.file ++ codes " " ++ change_text part.change
+
 -- the line of a part of the command at this place
 abbrev pub part_line : List (List ℕ) → Place → Part → List ℕ
-part_line names place part =
-    place_text place ++ codes " " ++ name_at names part.file ++ codes " " ++ change_text part.change
+part_line names place part = place_text place ++ codes " " ++ part_text names part
 
 -- the lines of a command: its own, and then one for each of its parts
 abbrev pub done_text : List (List ℕ) → Done → List ℕ

@@ -1,5 +1,5 @@
 -- The dump of a file at rest.
-use Rattle.std.specs.Prelude.{ℕ, ◌+◌, ◌-◌, ◌==◌, Bool, true, false, if◌then◌else◌, List, [], ◌++◌, length, codes}
+use Rattle.std.specs.Prelude.{ℕ, ◌+◌, ◌-◌, ◌==◌, Bool, true, false, if◌then◌else◌, List, [], ◌∷◌, ◌++◌, length, map, codes}
 use Rattle.std.specs.Prelude.{slice_index_or, Option, Some, None}
 use Rattle.std.specs.List.{flat_map, range_with_len, slice_get}
 use Rattle.sha2.specs.Sha256.{sha256}
@@ -47,18 +47,22 @@ chunk_text r n =
     ++ spaced (server_of r.book (names.name_at r.book n))
     ++ codes " " ++ rest_text (slice_index_or r.names n rest.Unborn)
 
--- the dump of a file of this name: its first line, and then one line for each generation and each name
-abbrev pub dump_text : List ℕ → Resting → List ℕ
-dump_text name r =
-    ended (head_text name r)
-    ++ flat_map (λ g. ended (generation_text r g)) (range_with_len 0 (length r.book.shape.stages))
-    ++ flat_map (λ n. ended (chunk_text r n)) (range_with_len 0 (names.count_of r.book))
+-- the lines of the dump of a file of this name: the first, and then one for each generation and each name
+abbrev pub dump_lines : List ℕ → Resting → List (List ℕ)
+dump_lines name r =
+    head_text name r
+    ∷ map (generation_text r) (range_with_len 0 (length r.book.shape.stages))
+    ++ map (chunk_text r) (range_with_len 0 (names.count_of r.book))
 
--- the dump of a file of this name, if it is there
-abbrev pub dump_if : List ℕ → Option Resting → List ℕ
-dump_if name None = []
-dump_if name (Some r) = dump_text name r
+-- the lines of the dump of a file of this name, if it is there
+abbrev pub lines_if : List ℕ → Option Resting → List (List ℕ)
+lines_if name None = []
+lines_if name (Some r) = dump_lines name r
 
--- the dumps of the files of these numbers
+-- the lines of the dumps of the files of these numbers
+abbrev pub dumps_lines : List (List ℕ) → List Resting → List ℕ → List (List ℕ)
+dumps_lines names files dumps = flat_map (λ file. lines_if (name_at names file) (slice_get files file)) dumps
+
+-- these dumps
 abbrev pub dumps_text : List (List ℕ) → List Resting → List ℕ → List ℕ
-dumps_text names files dumps = flat_map (λ file. dump_if (name_at names file) (slice_get files file)) dumps
+dumps_text names files dumps = flat_map ended (dumps_lines names files dumps)

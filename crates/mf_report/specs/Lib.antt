@@ -6,6 +6,7 @@ pub mod Commands
 pub mod Dumps
 pub mod Laws
 pub mod Report
+pub mod Json
 pub mod Writing
 pub mod Faults
 pub mod Verdicts

@@ -5,7 +5,7 @@ ghost use Rattle.std.specs.List.{flat_map};
 ghost use Rattle.mf_lines.specs.Meaning.{names_in};
 ghost use Rattle.mf_report.specs.Lines.{ended};
 ghost use Rattle.mf_report.specs.Commands.{place_text, act_text, converts, command_text};
-ghost use Rattle.mf_report.specs.Commands.{done_line, part_line, done_text};
+ghost use Rattle.mf_report.specs.Commands.{done_line, part_text, part_line, done_text};
 
 use crate::counts::push_io;
 use crate::lines::push_pointed;
@@ -35,9 +35,9 @@ fn push_place(out: &mut Vec<u8>, place: Place) -> Result<(), AllocError>
     push_pointed(out, place.command)
 }
 
-// A command, and what came of it.
+/// Writes a command, and what came of it. Fails only for want of memory.
 #[tactic(auto, using(std::proofs::lemmas::List::append_assoc))]
-fn push_command(
+pub fn push_command(
     alloc: Global,
     out: &mut Vec<u8>,
     files: &[FileLine],
@@ -71,9 +71,20 @@ fn push_line(
     Ok(())
 }
 
+/// Writes a part: its file, and what came of it. Fails only for want of memory.
+#[tactic(auto, using(std::proofs::lemmas::List::append_assoc))]
+pub fn push_part(out: &mut Vec<u8>, files: &[FileLine], part: Part) -> Result<(), AllocError>
+    ensures { OnOk result
+        (out.new.items ≡ out.old.items ++ part_text (names_in files.now) part) }
+{
+    out.extend_from_slice(name_of(files, part.file))?;
+    out.push(b' ')?;
+    push_change(out, part.change)
+}
+
 // The line of a part.
 #[tactic(auto, using(std::proofs::lemmas::List::append_assoc))]
-fn push_part(
+fn push_part_line(
     out: &mut Vec<u8>,
     files: &[FileLine],
     place: Place,
@@ -84,9 +95,7 @@ fn push_part(
 {
     push_place(out, place)?;
     out.push(b' ')?;
-    out.extend_from_slice(name_of(files, part.file))?;
-    out.push(b' ')?;
-    push_change(out, part.change)?;
+    push_part(out, files, part)?;
     out.push(b'\n')?;
     Ok(())
 }
@@ -102,7 +111,7 @@ fn push_parts(
         ++ flat_map (λ part. ended (part_line (names_in files.now) place part)) parts.now) }
 {
     for part in parts {
-        push_part(out, files, place, *part)?;
+        push_part_line(out, files, place, *part)?;
     }
     Ok(())
 }

@@ -7,8 +7,8 @@ use crate::lines::push_numbers;
 use mf_vault::Io;
 use std::alloc::AllocError;
 
-// The seven numbers, in the order in which they are written.
-fn numbers_of(io: Io) -> [u64; 7]
+/// The seven numbers, in the order in which they are written.
+pub fn numbers_of(io: Io) -> [u64; 7]
     ensures { result ≡ io_numbers io }
 {
     [

@@ -7,7 +7,7 @@ ghost use Rattle.mf_vault.specs.declared.answers.Rest.TheVariants as rest;
 ghost use Rattle.mf_lines.specs.Meaning.{names_in};
 ghost use Rattle.mf_report.specs.Lines.{ended};
 ghost use Rattle.mf_report.specs.Dumps.{published_text, head_text, generation_text, rest_text};
-ghost use Rattle.mf_report.specs.Dumps.{chunk_text, dump_text, dump_if, dumps_text};
+ghost use Rattle.mf_report.specs.Dumps.{chunk_text, dump_lines, lines_if, dumps_text};
 ghost use Rattle.mf_lines.specs.LineTexts.{name_at};
 
 use crate::lines::{push_number, push_word};
@@ -33,34 +33,30 @@ pub fn push_published(out: &mut Vec<u8>, stages: u32, number: u32) -> Result<(),
     }
 }
 
-// The first line.
+/// Writes the first line of a file's dump, without its end. Fails only for want of memory.
 #[tactic(auto, using(std::proofs::lemmas::List::append_assoc))]
-fn push_head(out: &mut Vec<u8>, name: &[u8], plain: &Plain) -> Result<(), AllocError>
-    ensures { OnOk result (out.new.items ≡ out.old.items ++ ended (head_text name.now plain.now)) }
+pub fn push_head(out: &mut Vec<u8>, name: &[u8], plain: &Plain) -> Result<(), AllocError>
+    ensures { OnOk result (out.new.items ≡ out.old.items ++ head_text name.now plain.now) }
 {
     out.extend_from_slice(b"dump ")?;
     out.extend_from_slice(name)?;
     out.extend_from_slice(b" published")?;
     push_published(out, plain.book().stages(), plain.published())?;
-    push_word(out, b" length", u64::from(plain.book().length()))?;
-    out.push(b'\n')?;
-    Ok(())
+    push_word(out, b" length", u64::from(plain.book().length()))
 }
 
-// The line of a generation.
+/// Writes the line of a generation, without its end. Fails only for want of memory.
 #[tactic(auto, using(std::proofs::lemmas::List::append_assoc))]
-fn push_generation(out: &mut Vec<u8>, plain: &Plain, g: u32) -> Result<(), AllocError>
+pub fn push_generation(out: &mut Vec<u8>, plain: &Plain, g: u32) -> Result<(), AllocError>
     requires { g < length plain.now.book.shape.stages }
-    ensures { OnOk result (out.new.items ≡ out.old.items ++ ended (generation_text plain.now g)) }
+    ensures { OnOk result (out.new.items ≡ out.old.items ++ generation_text plain.now g) }
 {
     push_word(out, b"gen", u64::from(g))?;
     if plain.closed(g) {
-        out.extend_from_slice(b" closed")?;
+        out.extend_from_slice(b" closed")
     } else {
-        out.extend_from_slice(b" kept")?;
+        out.extend_from_slice(b" kept")
     }
-    out.push(b'\n')?;
-    Ok(())
 }
 
 // The lines of the generations.
@@ -71,6 +67,7 @@ fn push_generations(out: &mut Vec<u8>, plain: &Plain) -> Result<(), AllocError>
 {
     for g in 0..plain.book().stages() {
         push_generation(out, plain, g)?;
+        out.push(b'\n')?;
     }
     Ok(())
 }
@@ -99,11 +96,11 @@ fn rest_of(plain: &Plain, n: u32) -> Result<Rest, AllocError>
     plain.rest(plain.book().name(n))
 }
 
-// The line of a name.
+/// Writes the line of a name, without its end. Fails only for want of memory.
 #[tactic(auto, using(std::proofs::lemmas::List::append_assoc))]
-fn push_chunk(out: &mut Vec<u8>, plain: &Plain, n: u32) -> Result<(), AllocError>
+pub fn push_chunk(out: &mut Vec<u8>, plain: &Plain, n: u32) -> Result<(), AllocError>
     requires { n < count_of plain.now.book }
-    ensures { OnOk result (out.new.items ≡ out.old.items ++ ended (chunk_text plain.now n)) }
+    ensures { OnOk result (out.new.items ≡ out.old.items ++ chunk_text plain.now n) }
 {
     let name = plain.book().name(n);
     let state = rest_of(plain, n)?;
@@ -111,9 +108,7 @@ fn push_chunk(out: &mut Vec<u8>, plain: &Plain, n: u32) -> Result<(), AllocError
     push_name(out, name)?;
     push_word(out, b" server", u64::from(plain.book().server(name)))?;
     out.push(b' ')?;
-    push_rest(out, &state)?;
-    out.push(b'\n')?;
-    Ok(())
+    push_rest(out, &state)
 }
 
 // The lines of the names.
@@ -124,6 +119,7 @@ fn push_chunks(out: &mut Vec<u8>, plain: &Plain) -> Result<(), AllocError>
 {
     for n in 0..plain.book().count() {
         push_chunk(out, plain, n)?;
+        out.push(b'\n')?;
     }
     Ok(())
 }
@@ -131,9 +127,11 @@ fn push_chunks(out: &mut Vec<u8>, plain: &Plain) -> Result<(), AllocError>
 // The dump of a file of this name.
 #[tactic(auto, using(std::proofs::lemmas::List::append_assoc))]
 fn push_dump(out: &mut Vec<u8>, name: &[u8], plain: &Plain) -> Result<(), AllocError>
-    ensures { OnOk result (out.new.items ≡ out.old.items ++ dump_text name.now plain.now) }
+    ensures { OnOk result
+        (out.new.items ≡ out.old.items ++ flat_map ended (dump_lines name.now plain.now)) }
 {
     push_head(out, name, plain)?;
+    out.push(b'\n')?;
     push_generations(out, plain)?;
     push_chunks(out, plain)
 }
@@ -146,7 +144,7 @@ fn push_dump_of(
     file: u32,
 ) -> Result<(), AllocError>
     ensures { OnOk result (out.new.items ≡ out.old.items
-        ++ dump_if (name_at (names_in names.now) file) (slice_get files.now file)) }
+        ++ flat_map ended (lines_if (name_at (names_in names.now) file) (slice_get files.now file))) }
 {
     match files.get(file as usize) {
         Some(plain) => push_dump(out, name_of(names, file), plain),

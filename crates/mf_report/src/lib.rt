@@ -6,10 +6,12 @@ mod commands;
 mod counts;
 mod dumps;
 mod faults;
+mod json;
 mod laws;
 mod lines;
 mod names;
 mod outcomes;
+mod totals;
 mod verdicts;
 mod writing;
 

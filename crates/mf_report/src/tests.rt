@@ -293,7 +293,10 @@ fn a_report_has_its_lines_in_order(rt: HostRuntime) -> Result<(), Fail> {
     let done = vec![in alloc; made, sweep_done(alloc)?]?;
     let files = Vec::new(alloc);
     let mut whole = MemorySink::new(alloc, 4096, Vec::new(alloc));
-    assert_eq!(rt; report(alloc, &mut whole, &script, &done, &files), Ok(()));
+    assert_eq!(rt;
+        report(alloc, &mut whole, &script, &done, &files, false),
+        Ok(())
+    );
     assert_eq!(rt; whole.written(), REPORT.as_bytes());
     Ok(())
 }

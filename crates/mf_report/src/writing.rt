@@ -1,18 +1,21 @@
 //! The report of a run.
 
-ghost use Rattle.std.specs.Prelude.{◌≡◌, ◌≤◌, ◌++◌, codes, map, length, IfOk, IfErr, OnOk};
+ghost use Rattle.std.specs.Prelude.{◌≡◌, ◌≤◌, ◌++◌, codes, length, IfOk, IfErr, OnOk};
 ghost use Rattle.std.specs.List.{All};
 ghost use Rattle.std.specs.Io.KnownBytes.{Appends};
 ghost use Rattle.mf_client.specs.declared.done.Done.{Done};
 ghost use Rattle.mf_report.specs.Lines.{ended};
 ghost use Rattle.mf_client.specs.Runs.{IsSmall};
 ghost use Rattle.mf_report.specs.Counts.{io_text};
-ghost use Rattle.mf_report.specs.Report.{took, conversions, report_text};
+ghost use Rattle.mf_report.specs.Report.{report_text};
+ghost use Rattle.mf_report.specs.Json.{written_text};
 ghost use Rattle.mf_report.specs.Writing.{Leaves};
 
-use crate::commands::{converts, push_commands};
-use crate::counts::{push_io, total};
+use crate::commands::push_commands;
+use crate::counts::push_io;
 use crate::dumps::push_dumps;
+use crate::json::json_bytes;
+use crate::totals::{conversions_took, took};
 use mf_client::Done;
 use mf_io::{Sink, write_all};
 use mf_plain::Plain;
@@ -27,51 +30,6 @@ pub enum ReportFault {
     Sink,
     /// Memory ran out.
     Memory,
-}
-
-// What each of the commands took.
-fn ios_of(alloc: Global, commands: &[Done]) -> Result<Vec<Io>, AllocError>
-    ensures { IfOk result (λ ios. ios.items ≡ map (λ (d : Done). d.io) commands.now) }
-{
-    let mut ios = Vec::new(alloc);
-    for done in commands {
-        ios.push(done.io)?;
-    }
-    Ok(ios)
-}
-
-// What each of the commands took that convert.
-fn conversion_ios_of(alloc: Global, commands: &[Done]) -> Result<Vec<Io>, AllocError>
-    ensures { IfOk result
-        (λ ios. ios.items ≡ map (λ (d : Done). d.io) (conversions commands.now)) }
-{
-    let mut ios = Vec::new(alloc);
-    for done in commands {
-        if converts(&done.act) {
-            ios.push(done.io)?;
-        }
-    }
-    Ok(ios)
-}
-
-// What the commands took, in all.
-fn took(alloc: Global, commands: &[Done]) -> Result<Io, AllocError>
-    requires few { length commands.now ≤ 4096 }
-    requires small { All (λ (d : Done). IsSmall d.io) commands.now }
-    ensures { IfOk result (λ io. io ≡ took commands.now) }
-{
-    let ios = ios_of(alloc, commands)?;
-    Ok(total(&ios))
-}
-
-// What the commands took that convert, in all.
-fn conversions_took(alloc: Global, commands: &[Done]) -> Result<Io, AllocError>
-    requires few { length commands.now ≤ 4096 }
-    requires small { All (λ (d : Done). IsSmall d.io) commands.now }
-    ensures { IfOk result (λ io. io ≡ took (conversions commands.now)) }
-{
-    let ios = conversion_ios_of(alloc, commands)?;
-    Ok(total(&ios))
 }
 
 // A line of counts behind a word.
@@ -108,9 +66,30 @@ fn report_bytes(
     Ok(out)
 }
 
+// The report's bytes, as JSON or line by line.
+fn written_bytes(
+    alloc: Global,
+    script: &Script,
+    commands: &[Done],
+    files: &[Plain],
+    json: bool,
+) -> Result<Vec<u8>, AllocError>
+    requires few { length commands.now ≤ 4096 }
+    requires small { All (λ (d : Done). IsSmall d.io) commands.now }
+    ensures { IfOk result
+        (λ text. text.items ≡ written_text json script.now commands.now files.now) }
+{
+    if json {
+        json_bytes(alloc, script, commands, files)
+    } else {
+        report_bytes(alloc, script, commands, files)
+    }
+}
+
 /// Writes the report of these commands of the script, in their order: one line for each, with what
 /// came of it and the operations on chunks that it took, one line for each of its parts, the dumps
-/// that the script asks for of these files, and the sums of the operations.
+/// that the script asks for of these files, and the sums of the operations. With `json` it writes
+/// the same as one line of JSON.
 ///
 /// # Errors
 /// `Sink` where a write failed: the sink's count has risen, and a front of the report was written.
@@ -121,17 +100,18 @@ pub fn report<K: Sink>(
     script: &Script,
     done: &[Done],
     files: &[Plain],
+    json: bool,
 ) -> Result<(), ReportFault>
     requires few { length done.now ≤ 4096 }
     requires small { All (λ (d : Done). IsSmall d.io) done.now }
     ensures text { OnOk result
         (Appends (K.written sink.old) (K.written sink.new)
-        (report_text script.now done.now files.now)) }
+        (written_text json script.now done.now files.now)) }
     ensures count { OnOk result (K.faults sink.new ≡ K.faults sink.old) }
-    ensures fault { IfErr result (λ fault. Leaves fault (report_text script.now done.now files.now)
+    ensures fault { IfErr result (λ fault. Leaves fault (written_text json script.now done.now files.now)
         (K.written sink.old) (K.written sink.new) (K.faults sink.old) (K.faults sink.new)) }
 {
-    let Ok(text) = report_bytes(alloc, script, done, files) else {
+    let Ok(text) = written_bytes(alloc, script, done, files, json) else {
         return Err(ReportFault::Memory);
     };
     match write_all(sink, &text) {

@@ -1,6 +1,6 @@
 -- How a call ends, from what it read and wrote.
 use Rattle.std.proofs.Common.{◌≡◌, ℕ, ◌+◌, ◌<◌, ◌≤◌, ◌⊎◌, inl, inr, List, [], ◌++◌, length, take, Option, None}
-use Rattle.std.proofs.Common.{Some, IfSome}
+use Rattle.std.proofs.Common.{Some, IfSome, Bool}
 use Rattle.std.proofs.Common.{◌≢◌, cond, if◌then◌else◌, sym, ap, ◌∙◌, subst, refl, arith, length-append, append-nil}
 use Rattle.std.specs.Io.KnownBytes.{Appends, Consumes, IsAtEnd}
 use Rattle.mf_io.specs.Faults.{HasRisen}
@@ -14,7 +14,7 @@ use Rattle.mf_script.specs.Scripts.{IsScript}
 use Rattle.mf_plain.specs.Resting.{Resting}
 use Rattle.mf_client.specs.declared.done.Done.{Done}
 use Rattle.mf_client.specs.Lacks.{lacks_memory}
-use Rattle.mf_report.specs.Report.{report_text}
+use Rattle.mf_report.specs.Json.{written_text}
 use Rattle.mf_report.specs.Verdicts.{accepted_text, refused_text, too_long}
 use Rattle.mf_report.specs.Writing.{Leaves}
 use Rattle.mf_report.specs.declared.writing.ReportFault.TheVariants as fault
@@ -74,57 +74,59 @@ long_input (Some x) (Some y) limit read e n = (x, refl, omega (arith, ap length 
 
 -- ---- the report of a run
 
-report_answer : (text : List ℕ) (s : Script) (done : List Done) (files : List Resting) → IsRun text s done files
-    → (status : ℕ) × IsAnswer (task_words Run) text status (report_text s done files)
-report_answer text s done files run =
+report_answer : (json : Bool) (text : List ℕ) (s : Script) (done : List Done) (files : List Resting)
+    → IsRun text s done files
+    → (status : ℕ) × IsAnswer (task_words (Run json)) text status (written_text json s done files)
+report_answer json text s done files run =
     elim (cases_Bool (list_any lacks_memory done)) [
-      | inl lacks ↦ (5, lacked s done files run lacks)
-      | inr fine ↦ (0, reported s done files run fine)
+      | inl lacks ↦ (5, lacked json s done files run lacks)
+      | inr fine ↦ (0, reported json s done files run fine)
     ]
 
 -- it was written whole
-pub ran : (o : Output) (text : List ℕ) (s : Script) (done mine yours : List Done) (files theirs : List Resting)
+pub ran : (json : Bool) (o : Output) (text : List ℕ) (s : Script) (done mine yours : List Done) (files theirs : List Resting)
     (status : Status)
     → IsRun text s done files → mine ≡ done → theirs ≡ files → yours ≡ done
-    → Appends o.written o.written_now (report_text s mine theirs)
+    → Appends o.written o.written_now (written_text json s mine theirs)
     → o.faults_now ≡ o.faults
-    → status ≡ (if list_any lacks_memory yours then Memory else ended.Done) → Writes o (task_words Run) text status
-ran o text s done mine yours files theirs status run first rests second appended held is =
-    let app : Appends o.written o.written_now (report_text s done files) =
-    subst (Appends o.written o.written_now) (λ i. report_text s (first i) (rests i)) appended in
+    → status ≡ (if list_any lacks_memory yours then Memory else ended.Done)
+    → Writes o (task_words (Run json)) text status
+ran json o text s done mine yours files theirs status run first rests second appended held is =
+    let app : Appends o.written o.written_now (written_text json s done files) =
+    subst (Appends o.written o.written_now) (λ i. written_text json s (first i) (rests i)) appended in
     elim (cases_Bool (list_any lacks_memory done)) [
       | inl lacks ↦
           let at : status ≡ Memory =
           is ∙ ap (λ d. cond (list_any lacks_memory d) Memory ended.Done) second ∙ cond-true _ _ _ lacks in
-          subst (Writes o (task_words Run) text) (sym at) (inr (record {
-            bytes = report_text s done files;
-            answer = lacked s done files run lacks;
+          subst (Writes o (task_words (Run json)) text) (sym at) (inr (record {
+            bytes = written_text json s done files;
+            answer = lacked json s done files run lacks;
             written = app;
             held = held;
           }))
       | inr fine ↦
           let at : status ≡ ended.Done =
           is ∙ ap (λ d. cond (list_any lacks_memory d) Memory ended.Done) second ∙ cond-false _ _ _ fine in
-          subst (Writes o (task_words Run) text) (sym at) (record {
-            bytes = report_text s done files;
-            answer = reported s done files run fine;
+          subst (Writes o (task_words (Run json)) text) (sym at) (record {
+            bytes = written_text json s done files;
+            answer = reported json s done files run fine;
             written = app;
             held = held;
           })
     ]
 
 -- a write of it failed
-pub ran_front : (o : Output) (text : List ℕ) (s : Script) (done mine : List Done) (files theirs : List Resting)
+pub ran_front : (json : Bool) (o : Output) (text : List ℕ) (s : Script) (done mine : List Done) (files theirs : List Resting)
     → IsRun text s done files → mine ≡ done → theirs ≡ files
-    → Leaves fault.Sink (report_text s mine theirs) o.written o.written_now o.faults o.faults_now
-    → WritesFront o (task_words Run) text
-ran_front o text s done mine files theirs run first rests left =
+    → Leaves fault.Sink (written_text json s mine theirs) o.written o.written_now o.faults o.faults_now
+    → WritesFront o (task_words (Run json)) text
+ran_front json o text s done mine files theirs run first rests left =
     let w = subst (λ t. Leaves fault.Sink t o.written o.written_now o.faults o.faults_now)
-    (λ i. report_text s (first i) (rests i)) left in
-    let answer = report_answer text s done files run in
+    (λ i. written_text json s (first i) (rests i)) left in
+    let answer = report_answer json text s done files run in
     record {
       status = answer.0;
-      bytes = report_text s done files;
+      bytes = written_text json s done files;
       count = w.1;
       answer = answer.1;
       within = w.2;

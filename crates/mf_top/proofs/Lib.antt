@@ -1,4 +1,3 @@
-mod Limits
 mod Running
 mod Ending
 mod Once

@@ -1,13 +1,14 @@
 -- A script has one plain run, words and a text have one answer, and a call ends well where nothing fails.
-use Rattle.std.proofs.Common.{◌≡◌, ◌≢◌, ℕ, zero, suc, ◌⊎◌, inl, inr, Bool, false, List, [], ◌∷◌, ◌++◌, map}
-use Rattle.std.proofs.Common.{Option, Some, All, refl, sym, ap, ◌∙◌, subst}
+use Rattle.std.proofs.Common.{◌≡◌, ◌≢◌, ℕ, zero, suc, ◌⊎◌, inl, inr, Bool, true, false, List, [], ◌∷◌, ◌++◌, map}
+use Rattle.std.proofs.Common.{◌≤◌, length, Option, Some, All, refl, sym, ap, ◌∙◌, subst, arith}
 use Rattle.std.specs.Prelude.{IfSome}
 use Rattle.std.specs.List.{list_any}
 use Rattle.std.proofs.lemmas.Bool.{or_parts}
 use Rattle.std.proofs.lemmas.List.Elements.{All-nil, All-cons, All-head, All-tail, All-map, All-from_get_or}
 use Rattle.mf_lines.specs.declared.parts.ScriptFault.{ScriptFault}
-use Rattle.mf_lines.specs.Meaning.{Script, main_of}
+use Rattle.mf_lines.specs.Meaning.{Script, main_of, phases_in}
 use Rattle.mf_script.specs.Losses.{losses_of}
+use Rattle.mf_script.specs.Phases.{clients_of, ticks_before}
 use Rattle.mf_script.specs.Scripts.{IsScript}
 use Rattle.mf_script.specs.Faults.{IsFault, IsScriptFault}
 use Rattle.mf_plain.specs.Resting.{Resting}
@@ -18,13 +19,16 @@ use Rattle.mf_client.specs.Laws.{IsWhole, HadMemory}
 use Rattle.mf_client.proofs.Once.{run_once}
 use Rattle.mf_script.proofs.Exclusive.{one_answer as scripts_are}
 use Rattle.mf_lines.specs.declared.parts.Content.TheVariants as given
-use Rattle.mf_report.specs.Report.{report_text}
+use Rattle.mf_report.specs.Json.{written_text}
 use Rattle.mf_report.specs.Verdicts.{accepted_text, refused_text, words_refusal}
-use Rattle.mf_top.specs.PlainRun.{new_file, first_actors, left_by, RunsPhase, RunsTo, IsPlainRun}
+use Rattle.mf_crew.specs.Files.{left_by}
+use Rattle.mf_crew.specs.Alone.{first_actors, RunsPhase}
+use Rattle.mf_crew.specs.Live.{IsPhase}
+use Rattle.mf_top.specs.PlainRun.{new_file, RunsTo, IsPlainRun}
 use Rattle.mf_top.specs.Answers.{task_words, AsksNothing, IsRefused, IsRun, IsAnswer}
 use Rattle.mf_top.specs.Answers.{reported, lacked, accepted, refused, no_words}
 use Rattle.mf_top.specs.Ends.{Call, Ends}
-use Rattle.mf_top.specs.Laws.{RefusesAlike, OneAnswer, NothingFailed, Completes}
+use Rattle.mf_top.specs.Laws.{RefusesAlike, IsPlain, OneAnswer, NothingFailed, Completes}
 use Rattle.mf_top.specs.declared.Task.{Task}
 use Rattle.mf_top.specs.declared.Task.TheVariants.{Run, Check}
 use Rattle.mf_top.specs.declared.Status.{Status}
@@ -57,32 +61,42 @@ somes (x ∷ xs) (y ∷ ys) e =
     heads : (x y : Resting) (xs ys : List (Option Resting)) → Some x ∷ xs ≡ Some y ∷ ys → (x ≡ y) × (xs ≡ ys)
     heads x y xs ys e = (cc, cc)
 
-first_whole : (s : Script) (p : ℕ) (files : List Resting) → All IsWhole (first_actors s p files)
-first_whole s p files =
-    All-map IsWhole (λ r. first_actor r 0 (losses_of s p)) files
-    (All-from_get_or (λ r. IsWhole (first_actor r 0 (losses_of s p))) files (no_file tt) (λ i within. (_, refl)))
+first_whole : (s : Script) (p now : ℕ) (files : List Resting) → All IsWhole (first_actors s p now files)
+first_whole s p now files =
+    All-map IsWhole (λ r. first_actor r now (losses_of s p)) files
+    (All-from_get_or (λ r. IsWhole (first_actor r now (losses_of s p))) files (no_file tt) (λ i within. (_, refl)))
   where
     no_file : Unit {0} → Resting
     no_file u = new_file s 0 (record { name = []; content = given.Empty })
 
-phase_once : (s : Script) (p : ℕ) (files one other : List Resting) (ds es : List Done) → RunsPhase s p files ds one
-    → RunsPhase s p files es other → All HadMemory ds → All HadMemory es → (ds ≡ es) × (one ≡ other)
-phase_once s p files one other ds es a b had_a had_b =
-    let same = run_once s p 1 (first_actors s p files) a.actors b.actors ds es
-    (first_whole s p files) a.runs b.runs had_a had_b in
+phase_once : (s : Script) (p now : ℕ) (files one other : List Resting) (ds es : List Done)
+    → RunsPhase s p now files ds one → RunsPhase s p now files es other → All HadMemory ds → All HadMemory es
+    → (ds ≡ es) × (one ≡ other)
+phase_once s p now files one other ds es a b had_a had_b =
+    let same = run_once s p 1 (first_actors s p now files) a.actors b.actors ds es
+    (first_whole s p now files) a.runs b.runs had_a had_b in
     (same.0, somes one other (sym a.rest ∙ ap (map left_by) same.1 ∙ b.rest))
 
-runs_once : (s : Script) (n : ℕ) (ds es : List Done) (one other : List Resting) → RunsTo s n ds one
-    → RunsTo s n es other
-    → All HadMemory ds → All HadMemory es → (ds ≡ es) × (one ≡ other)
-runs_once s zero ds es one other a b had_a had_b = (a.0 ∙ sym b.0, a.1 ∙ sym b.1)
-runs_once s (suc n) ds es one other a b had_a had_b =
+-- a phase of one client is none of several
+one_of : (s : Script) (p now : ℕ) (files new : List Resting) (done : List Done) → length (clients_of s p) ≡ 1
+    → IsPhase s p now files done new → RunsPhase s p now files done new
+one_of s p now files new done one (inl h) = h
+one_of s p now files new done one (inr h) = absurd (omega (arith, one, h.many))
+
+runs_once : (s : Script) (n : ℕ) (ds es : List Done) (one other : List Resting) → IsPlain s
+    → n ≤ length (phases_in s.items) → RunsTo s n ds one → RunsTo s n es other → All HadMemory ds → All HadMemory es
+    → (ds ≡ es) × (one ≡ other)
+runs_once s zero ds es one other plain within a b had_a had_b = (a.0 ∙ sym b.0, a.1 ∙ sym b.1)
+runs_once s (suc n) ds es one other plain within a b had_a had_b =
     let all_a = subst (All HadMemory) a.5 had_a in
     let all_b = subst (All HadMemory) b.5 had_b in
-    let front = runs_once s n a.0 b.0 a.2 b.2 a.3 b.3 (all_front HadMemory a.0 a.1 all_a)
+    let front = runs_once s n a.0 b.0 a.2 b.2 plain (omega (arith, within)) a.3 b.3 (all_front HadMemory a.0 a.1 all_a)
     (all_front HadMemory b.0 b.1 all_b) in
-    let mine : RunsPhase s (suc n) b.2 a.1 one = subst (λ files. RunsPhase s (suc n) files a.1 one) front.1 a.4 in
-    let last = phase_once s (suc n) b.2 one other a.1 b.1 mine b.4 (all_behind HadMemory a.0 a.1 all_a)
+    let now = ticks_before s (suc n) in
+    let single = plain (suc n) (omega arith, within) in
+    let mine : IsPhase s (suc n) now b.2 a.1 one = subst (λ files. IsPhase s (suc n) now files a.1 one) front.1 a.4 in
+    let last = phase_once s (suc n) now b.2 one other a.1 b.1 (one_of s (suc n) now b.2 one a.1 single mine)
+    (one_of s (suc n) now b.2 other b.1 single b.4) (all_behind HadMemory a.0 a.1 all_a)
     (all_behind HadMemory b.0 b.1 all_b) in
     (a.5 ∙ (λ i. front.0 i ++ last.0 i) ∙ sym b.5, last.1)
 
@@ -90,13 +104,14 @@ runs_once s (suc n) ds es one other a b had_a had_b =
 
 -- of a script that was run, with the status
 record Ran (words : List (List ℕ)) (text : List ℕ) (m : ℕ) (x : List ℕ) : Type 0 where
+  json : Bool
   script : Script
   done : List Done
   files : List Resting
-  asks : words ≡ task_words Run
+  asks : words ≡ task_words (Run json)
   run : IsRun text script done files
   status : ((m ≡ 0) × (list_any lacks_memory done ≡ false)) ⊎ (m ≡ 5)
-  is : x ≡ report_text script done files
+  is : x ≡ written_text json script done files
 
 record Tried (words : List (List ℕ)) (text : List ℕ) (m : ℕ) (x : List ℕ) : Type 0 where
   script : Script
@@ -125,8 +140,9 @@ data Shown (words : List (List ℕ)) (text : List ℕ) (m : ℕ) (x : List ℕ) 
   by_words : Wordless words m x → Shown words text m x
 
 shown : (words : List (List ℕ)) (text : List ℕ) (m : ℕ) (x : List ℕ) → IsAnswer words text m x → Shown words text m x
-shown words text m x (reported s done files run fine) =
+shown words text m x (reported json s done files run fine) =
     by_run (record {
+      json = json;
       script = s;
       done = done;
       files = files;
@@ -135,8 +151,17 @@ shown words text m x (reported s done files run fine) =
       status = inl (refl, fine);
       is = refl;
     })
-shown words text m x (lacked s done files run lacks) =
-    by_run (record { script = s; done = done; files = files; asks = refl; run = run; status = inr refl; is = refl })
+shown words text m x (lacked json s done files run lacks) =
+    by_run (record {
+      json = json;
+      script = s;
+      done = done;
+      files = files;
+      asks = refl;
+      run = run;
+      status = inr refl;
+      is = refl;
+    })
 shown words text m x (accepted s is) =
     by_check (record { script = s; asks = refl; read = is; status = refl; is = refl })
 shown words text m x (refused task fault is) =
@@ -144,8 +169,15 @@ shown words text m x (refused task fault is) =
 shown words text m x (no_words none) = by_words (record { asks = none; status = refl; is = refl })
 
 -- the words of the tasks differ
-apart : task_words Run ≡ task_words Check → ⊥
-apart e = cc
+apart : (json : Bool) → task_words (Run json) ≡ task_words Check → ⊥
+apart true e = cc
+apart false e = cc
+
+one_form : (json other : Bool) → task_words (Run json) ≡ task_words (Run other) → json ≡ other
+one_form true true e = refl
+one_form true false e = absurd cc
+one_form false true e = absurd cc
+one_form false false e = refl
 
 -- a text with a fault is no script
 no_script : (text : List ℕ) (s : Script) (f : ScriptFault) → IsScript text s → IsRefused text f → ⊥
@@ -171,17 +203,22 @@ fine : (m : ℕ) (b : Bool) → ((m ≡ 0) × (b ≡ false)) ⊎ (m ≡ 5) → m
 fine m b (inl h) other = h
 fine m b (inr e) other = absurd (other e)
 
-runs_alike : (words : List (List ℕ)) (text : List ℕ) (m n : ℕ) (x y : List ℕ) → Ran words text m x → Ran words text n y
-    → m ≢ 5 → n ≢ 5 → SameAnswer m n x y
+runs_alike : (words : List (List ℕ)) (text : List ℕ) (m n : ℕ) (x y : List ℕ)
+    → ((s : Script) → IsScript text s → IsPlain s) → Ran words text m x → Ran words text n y → m ≢ 5 → n ≢ 5
+    → SameAnswer m n x y
 unfolding SameAnswer
-runs_alike words text m n x y a b one other =
+runs_alike words text m n x y plain a b one other =
     let fine_a = fine m _ a.status one in
     let fine_b = fine n _ b.status other in
     let script : a.script ≡ b.script = scripts_are.script text a.script b.script a.run.script b.run.script in
     let mine : IsPlainRun b.script a.done a.files = subst (λ s. IsPlainRun s a.done a.files) script a.run.run in
-    let same = runs_once b.script _ a.done b.done a.files b.files mine b.run.run (none_lacks a.done fine_a.1)
+    let same = runs_once b.script (length (phases_in b.script.items)) a.done b.done a.files b.files
+    (plain b.script b.run.script) (omega arith) mine b.run.run (none_lacks a.done fine_a.1)
     (none_lacks b.done fine_b.1) in
-    (fine_a.0 ∙ sym fine_b.0, inl (a.is ∙ (λ i. report_text (script i) (same.0 i) (same.1 i)) ∙ sym b.is))
+    let form = one_form a.json b.json (sym a.asks ∙ b.asks) in (
+      fine_a.0 ∙ sym fine_b.0,
+      inl (a.is ∙ (λ i. written_text (form i) (script i) (same.0 i) (same.1 i)) ∙ sym b.is),
+    )
 
 faults_alike : (words : List (List ℕ)) (text : List ℕ) (m n : ℕ) (x y : List ℕ) → Faulty words text m x
     → Faulty words text n y → SameAnswer m n x y
@@ -201,34 +238,36 @@ faults_alike words text m n x y a b =
       }),
     )
 
-alike : (words : List (List ℕ)) (text : List ℕ) (m n : ℕ) (x y : List ℕ) → Shown words text m x → Shown words text n y
-    → m ≢ 5 → n ≢ 5 → SameAnswer m n x y
+alike : (words : List (List ℕ)) (text : List ℕ) (m n : ℕ) (x y : List ℕ)
+    → ((s : Script) → IsScript text s → IsPlain s) → Shown words text m x → Shown words text n y → m ≢ 5 → n ≢ 5
+    → SameAnswer m n x y
 unfolding SameAnswer
-alike words text m n x y (by_run a) (by_run b) one other = runs_alike words text m n x y a b one other
-alike words text m n x y (by_run a) (by_check b) one other = absurd (apart (sym a.asks ∙ b.asks))
-alike words text m n x y (by_run a) (by_fault b) one other =
+alike words text m n x y plain (by_run a) (by_run b) one other =
+    runs_alike words text m n x y plain a b one other
+alike words text m n x y plain (by_run a) (by_check b) one other = absurd (apart a.json (sym a.asks ∙ b.asks))
+alike words text m n x y plain (by_run a) (by_fault b) one other =
     absurd (no_script text a.script b.fault a.run.script b.refused)
-alike words text m n x y (by_run a) (by_words b) one other = absurd (b.asks Run a.asks)
-alike words text m n x y (by_check a) (by_run b) one other = absurd (apart (sym b.asks ∙ a.asks))
-alike words text m n x y (by_check a) (by_check b) one other =
+alike words text m n x y plain (by_run a) (by_words b) one other = absurd (b.asks (Run a.json) a.asks)
+alike words text m n x y plain (by_check a) (by_run b) one other = absurd (apart b.json (sym b.asks ∙ a.asks))
+alike words text m n x y plain (by_check a) (by_check b) one other =
     let script : a.script ≡ b.script = scripts_are.script text a.script b.script a.read b.read in
     (a.status ∙ sym b.status, inl (a.is ∙ ap (λ (s : Script). accepted_text (main_of s).stages) script ∙ sym b.is))
-alike words text m n x y (by_check a) (by_fault b) one other = absurd (no_script text a.script b.fault a.read b.refused)
-alike words text m n x y (by_check a) (by_words b) one other = absurd (b.asks Check a.asks)
-alike words text m n x y (by_fault a) (by_run b) one other =
+alike words text m n x y plain (by_check a) (by_fault b) one other = absurd (no_script text a.script b.fault a.read b.refused)
+alike words text m n x y plain (by_check a) (by_words b) one other = absurd (b.asks Check a.asks)
+alike words text m n x y plain (by_fault a) (by_run b) one other =
     absurd (no_script text b.script a.fault b.run.script a.refused)
-alike words text m n x y (by_fault a) (by_check b) one other = absurd (no_script text b.script a.fault b.read a.refused)
-alike words text m n x y (by_fault a) (by_fault b) one other = faults_alike words text m n x y a b
-alike words text m n x y (by_fault a) (by_words b) one other = absurd (b.asks a.task a.asks)
-alike words text m n x y (by_words a) (by_run b) one other = absurd (a.asks Run b.asks)
-alike words text m n x y (by_words a) (by_check b) one other = absurd (a.asks Check b.asks)
-alike words text m n x y (by_words a) (by_fault b) one other = absurd (a.asks b.task b.asks)
-alike words text m n x y (by_words a) (by_words b) one other = (a.status ∙ sym b.status, inl (a.is ∙ sym b.is))
+alike words text m n x y plain (by_fault a) (by_check b) one other = absurd (no_script text b.script a.fault b.read a.refused)
+alike words text m n x y plain (by_fault a) (by_fault b) one other = faults_alike words text m n x y a b
+alike words text m n x y plain (by_fault a) (by_words b) one other = absurd (b.asks a.task a.asks)
+alike words text m n x y plain (by_words a) (by_run b) one other = absurd (a.asks (Run b.json) b.asks)
+alike words text m n x y plain (by_words a) (by_check b) one other = absurd (a.asks Check b.asks)
+alike words text m n x y plain (by_words a) (by_fault b) one other = absurd (a.asks b.task b.asks)
+alike words text m n x y plain (by_words a) (by_words b) one other = (a.status ∙ sym b.status, inl (a.is ∙ sym b.is))
 
 pub one_answer : OneAnswer
 unfolding SameAnswer
-one_answer words text m n x y a b one other =
-    alike words text m n x y (shown words text m x a) (shown words text n y b) one other
+one_answer words text m n x y plain a b one other =
+    alike words text m n x y plain (shown words text m x a) (shown words text n y b) one other
 
 -- ---- a call ends well where nothing fails
 
@@ -247,18 +286,19 @@ not_words task words text x e (by_check a) = let told = a.status in cc
 not_words task words text x e (by_fault a) = let told = a.status in cc
 not_words task words text x e (by_words a) = a.asks task e
 
-run_ends_well : (c : Call) (status : Status) (text : List ℕ) (s : Script) → Ends c status → c.words ≡ task_words Run
-    → c.left ≡ Some text → IsScript text s → NothingFailed c → (status ≡ ended.Done) ⊎ (status ≡ ended.Memory)
-run_ends_well c ended.Done text s h asks left is held = inl refl
-run_ends_well c ended.Memory text s h asks left is held = inr refl
-run_ends_well c ended.Refused text s h asks left is held =
+run_ends_well : (json : Bool) (c : Call) (status : Status) (text : List ℕ) (s : Script) → Ends c status
+    → c.words ≡ task_words (Run json) → c.left ≡ Some text → IsScript text s → NothingFailed c
+    → (status ≡ ended.Done) ⊎ (status ≡ ended.Memory)
+run_ends_well json c ended.Done text s h asks left is held = inl refl
+run_ends_well json c ended.Memory text s h asks left is held = inr refl
+run_ends_well json c ended.Refused text s h asks left is held =
     let same : h.text ≡ text = subst (λ l. IfSome l (λ bytes. h.text ≡ bytes)) left h.input in
     absurd (not_refused c.words h.text s h.writes.bytes (shown c.words h.text 1 h.writes.bytes h.writes.answer)
     (subst (λ t. IsScript t s) (sym same) is))
-run_ends_well c ended.Words text s h asks left is held =
-    absurd (not_words Run c.words h.text h.writes.bytes asks (shown c.words h.text 2 h.writes.bytes h.writes.answer))
-run_ends_well c ended.SourceFault text s h asks left is held = absurd (held.reads h.1)
-run_ends_well c ended.SinkFault text s h asks left is held = absurd (held.writes h.writes.failed)
+run_ends_well json c ended.Words text s h asks left is held =
+    absurd (not_words (Run json) c.words h.text h.writes.bytes asks (shown c.words h.text 2 h.writes.bytes h.writes.answer))
+run_ends_well json c ended.SourceFault text s h asks left is held = absurd (held.reads h.1)
+run_ends_well json c ended.SinkFault text s h asks left is held = absurd (held.writes h.writes.failed)
 
 check_ends_well : (c : Call) (status : Status) → Ends c status → c.words ≡ task_words Check → NothingFailed c
     → (status ≡ ended.Done) ⊎ ((status ≡ ended.Refused) ⊎ (status ≡ ended.Memory))

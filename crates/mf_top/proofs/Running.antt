@@ -1,59 +1,34 @@
--- The phases of a script, run one after the other: what a phase finds, and what it leaves.
-use Rattle.std.proofs.Common.{◌≡◌, ℕ, zero, suc, ◌+◌, ◌-◌, ◌<◌, ◌≤◌, Bool, true, false, List, [], ◌∷◌, ◌++◌, length}
-use Rattle.std.proofs.Common.{map, take, get_or}
-use Rattle.std.proofs.Common.{Option, Some, None, All, refl, sym, ap, ◌∙◌, subst, arith, length-append, cond}
+-- The phases of a script, run one after the other.
+use Rattle.std.proofs.Common.{◌≡◌, ℕ, zero, suc, ◌+◌, ◌-◌, ◌<◌, ◌≤◌, List, [], ◌∷◌, ◌++◌, length, take, get_or}
+use Rattle.std.proofs.Common.{Some, All, inl, inr, drop, refl, sym, ap, ◌∙◌, subst, arith, length-append}
 use Rattle.std.specs.Prelude.{slice_get, slice_index_or, flat_map}
-use Rattle.std.specs.Option.{option_map}
 use Rattle.std.proofs.lemmas.Grind.{flat_map-append}
-use Rattle.std.proofs.lemmas.List.{length-map, length-take, take_all}
-use Rattle.std.proofs.lemmas.List.Elements.{All-append, All-from_get_or, All-map}
-use Rattle.std.proofs.lemmas.Option.{slice_get-map, slice_get-get_or, slice_get_within, get_or_from_slice_get}
-use Rattle.std.proofs.Math.Seq.{take-suc, take-append_seam}
-use Rattle.mf_machine.specs.Worlds.{World}
+use Rattle.std.proofs.lemmas.List.{length-take, take_all, take-append-le, drop_more}
+use Rattle.std.proofs.lemmas.List.Elements.{All-append}
+use Rattle.std.proofs.lemmas.Option.{slice_get_within, get_or_from_slice_get}
+use Rattle.std.proofs.Math.Seq.{take-suc}
 use Rattle.mf_places.specs.declared.losses.LoseLine.{LoseLine}
-use Rattle.mf_places.specs.Facts.{BookFacts}
 use Rattle.mf_lines.specs.declared.parts.Command.{Command}
 use Rattle.mf_lines.specs.declared.parts.Client.{Client}
-use Rattle.mf_lines.specs.declared.parts.Content.TheVariants as given
 use Rattle.mf_lines.specs.declared.parts.FileLine.{FileLine}
 use Rattle.mf_lines.specs.declared.parts.Item.{Item}
 use Rattle.mf_lines.specs.declared.parts.Item.TheVariants as item
-use Rattle.mf_lines.specs.Meaning.{Script}
-use Rattle.mf_script.specs.Losses.{losses_of, item_losses}
+use Rattle.mf_lines.specs.Meaning.{Script, phases_in}
+use Rattle.mf_script.specs.Losses.{losses_of, phase_losses}
+use Rattle.mf_script.specs.Phases.{clients_of, ticks_ahead, ticks_before}
 use Rattle.mf_vault.specs.Facts.{Facts}
 use Rattle.mf_vault.specs.Actor.{Actor}
-use Rattle.mf_vault.specs.Conditions.{IsIdle}
-use Rattle.mf_plain.specs.Resting.{Resting, AtRest, facts_of}
-use Rattle.mf_plain.specs.declared.access.PlainAccess.{PlainAccess}
-use Rattle.mf_plain.specs.Alone.{first_actor, rested}
-use Rattle.mf_plain.specs.Whole.{actor_of}
+use Rattle.mf_plain.specs.Resting.{Resting, AtRest}
 use Rattle.mf_client.specs.declared.done.Done.{Done}
-use Rattle.mf_client.specs.Clients.{HasClient, phases_in, clients_of, commands_of, IsFileOf, AreFiles, facts_in}
-use Rattle.mf_client.specs.Runs.{Runs, RunsFrom}
-use Rattle.mf_top.specs.PlainRun.{new_file, new_from, new_files, first_actors, left_by, RunsPhase, RunsTo}
-use Rattle.mf_top.specs.PlainRun.{AreOfLines, IsPlainRun}
-use Rattle.mf_top.specs.Between.{IsBehind, AreBehind}
-use Rattle.mf_top.proofs.Limits.{IsSingle, Singles, in_clients, in_item, in_items}
+use Rattle.mf_client.specs.Clients.{commands_of}
+use Rattle.mf_client.specs.Runs.{RunsFrom}
+use Rattle.mf_crew.specs.Files.{HasPhase, RestsBy, AllRestBy}
+use Rattle.mf_crew.specs.Alone.{first_actors}
+use Rattle.mf_crew.specs.Live.{Ran, AllRan, IsPhase}
+use Rattle.mf_top.specs.PlainRun.{new_file, new_from, new_files, AreOfLines, RunsTo, IsPlainRun}
+use Rattle.mf_crew.proofs.Limits.{in_clients, in_item, in_items}
 
 -- ---- lists
-
--- an element of a mapped list is that of the list, mapped
-pub record Mapped {A B : Type 0} (f : A → B) (xs : List A) (n : ℕ) (y : B) : Type 0 where
-  pub before : A
-  pub at : slice_get xs n ≡ Some before
-  pub is : f before ≡ y
-
-pub mapped : {A B : Type 0} (f : A → B) (xs : List A) (n : ℕ) (y : B) → slice_get (map f xs) n ≡ Some y
-    → Mapped f xs n y
-mapped f xs n y e = go (slice_get xs n) refl (sym (slice_get-map f xs n) ∙ e)
-  where
-    go : (o : Option _) → slice_get xs n ≡ o → option_map f o ≡ Some y → Mapped f xs n y
-    go (Some x) at is = record { before = x; at = at; is = cc }
-    go None at is = absurd cc
-
-pub map_at : {A B : Type 0} (f : A → B) (xs : List A) (n : ℕ) (x : A) → slice_get xs n ≡ Some x
-    → slice_get (map f xs) n ≡ Some (f x)
-map_at f xs n x e = slice_get-map f xs n ∙ ap (option_map f) e
 
 one_more : {A : Type 0} (n : ℕ) (xs : List A) → (rest : List A) × (take (suc n) xs ≡ take n xs ++ rest)
 one_more zero [] = ([], refl)
@@ -99,194 +74,88 @@ new_next s n xs line files plain new are within at so_far one pushed =
     ∙ sym (new_more s 0 n (take n s.files) line (omega (arith, length-take n s.files)))
     ∙ ap (new_from s 0) (sym taken ∙ ap (λ k. take k s.files) next)
 
-pub begins : (s : Script) → AreBehind s 0 (new_files s)
-begins s = record {
+pub begins : (s : Script) (now : ℕ) → AllRestBy s 0 now (new_files s)
+begins s now = record {
   count = new_length s 0 s.files;
   each = λ n line r at is.
       let here : 0 + n ≡ n = omega arith in
       let new : r ≡ new_file s n line = new_at s 0 n s.files line r at is ∙ ap (λ j. new_file s j line) here in
-      record {
-        book = ap (λ (x : Resting). x.book) new;
-        bytes = ap (λ (x : Resting). x.bytes) new;
-        losses = ap (λ (x : Resting). x.losses) new;
-        born = ap (λ (x : Resting). x.born) new;
-      };
+      subst (RestsBy s 0 now n line) (sym new)
+      (record { book = refl; bytes = refl; losses = refl; born = omega arith });
 }
 
--- ---- what a phase finds
-
--- each file has a line
-pub record HasLine (s : Script) (phases n : ℕ) (r : Resting) : Type 0 where
-  pub line : FileLine
-  pub at : slice_get s.files n ≡ Some line
-  pub is : IsBehind s phases n line r
-
-has_line : (s : Script) (phases : ℕ) (files : List Resting) (n : ℕ) (r : Resting) → AreBehind s phases files
-    → slice_get files n ≡ Some r → HasLine s phases n r
-has_line s phases files n r are at =
-    let line : FileLine = get_or s.files n (no_line tt) in
-    let there = slice_get-get_or s.files n (no_line tt) (omega (arith, are.count, slice_get_within files n r at)) in
-    record { line = line; at = there; is = are.each n line r there at }
-  where
-    no_line : Unit {0} → FileLine
-    no_line u = record { name = []; content = given.Empty }
-
-pub since : (s : Script) (phases : ℕ) (files : List Resting) → AreBehind s phases files
-    → All (λ (r : Resting). r.born ≤ 0) files
-since s phases files are =
-    All-from_get_or (λ (r : Resting). r.born ≤ 0) files (no_file tt)
-    (λ i within.
-    let has = has_line s phases files i (get_or files i (no_file tt)) are (slice_get-get_or files i
-    (no_file tt) within) in
-    omega (arith, has.is.born))
-  where
-    no_file : Unit {0} → Resting
-    no_file u = new_file s 0 (record { name = []; content = given.Empty })
+-- ---- between two phases
 
 -- the lose lines up to the next phase
 more_losses : (s : Script) (n : ℕ) → (more : List LoseLine) × (losses_of s (suc n) ≡ losses_of s n ++ more)
 more_losses s n =
-    let more = one_more n s.items in (
-      flat_map item_losses more.0,
-      ap (flat_map item_losses) more.1
-          ∙ flat_map-append item_losses (take n s.items) more.0,
-    )
+    let ps = phases_in s.items in
+    let more = one_more n ps in
+    (flat_map phase_losses more.0, ap (flat_map phase_losses) more.1 ∙ flat_map-append phase_losses (take n ps) more.0)
 
-pub losses_first : (s : Script) (n : ℕ) (files : List Resting) (losses : List LoseLine) → AreBehind s n files
-    → losses ≡ losses_of s (n + 1) → All (λ (r : Resting). take (length r.losses) losses ≡ r.losses) files
-losses_first s n files losses are e =
+-- the ticks only grow
+ahead_grow : (items : List Item) (m k : ℕ) → m ≤ k → ticks_ahead items m ≤ ticks_ahead items k
+ahead_grow [] m k low = omega arith
+ahead_grow (item.Tick n ∷ items) m k low = omega (arith, ahead_grow items m k low)
+ahead_grow (item.Phase cs ∷ items) zero k low = omega arith
+ahead_grow (item.Phase cs ∷ items) (suc m) zero low = absurd (omega (arith, low))
+ahead_grow (item.Phase cs ∷ items) (suc m) (suc k) low = ahead_grow items m k (omega (arith, low))
+
+pub ticks_grow : (s : Script) (n : ℕ) → ticks_before s n ≤ ticks_before s (suc n)
+ticks_grow s n = ahead_grow s.items (n - 1) (suc n - 1) (omega arith)
+
+-- a front of a list is one of a longer list
+front_more : (xs all more : List LoseLine) → take (length xs) all ≡ xs → take (length xs) (all ++ more) ≡ xs
+front_more xs all more is =
+    let within : length xs ≤ length all = omega (arith, ap length is, length-take (length xs) all) in
+    take-append-le (length xs) all more within ∙ is
+
+-- files that rest behind a phase rest before the next one
+pub rest_on : (s : Script) (n now later : ℕ) (files : List Resting) → AllRestBy s n now files → now ≤ later
+    → AllRestBy s (suc n) later files
+rest_on s n now later files are on =
     let more = more_losses s n in
-    let next : suc n ≡ n + 1 = omega arith in
-    All-from_get_or (λ (r : Resting). take (length r.losses) losses ≡ r.losses) files (no_file tt)
-    (λ i within.
-    let has = has_line s n files i (get_or files i (no_file tt)) are (slice_get-get_or files i (no_file tt) within) in
-    let mine = (get_or files i (no_file tt)).losses in
-    ap (take (length mine)) (e ∙ ap (losses_of s) (sym next) ∙ more.1 ∙ ap (λ l. l ++ more.0) (sym has.is.losses))
-    ∙ take-append_seam mine more.0)
-  where
-    no_file : Unit {0} → Resting
-    no_file u = new_file s 0 (record { name = []; content = given.Empty })
-
--- the actors' facts
-first_facts : (s : Script) (p n : ℕ) (files : List Resting) (f : Facts)
-    → slice_get (facts_in (first_actors s p files)) n ≡ Some f
-    → Mapped (λ r. facts_of r 0 (losses_of s p)) files n f
-first_facts s p n files f e =
-    let outer = mapped (λ (a : Actor). a.facts) (first_actors s p files) n f e in
-    let inner = mapped (λ r. first_actor r 0 (losses_of s p)) files n outer.before outer.at in
-    record { before = inner.before; at = inner.at; is = ap (λ (a : Actor). a.facts) inner.is ∙ outer.is }
-
-found : (s : Script) (p k n : ℕ) (line : FileLine) (r : Resting) → IsBehind s k n line r
-    → IsFileOf s p n line (facts_of r 0 (losses_of s p))
-found s p k n line r is = record {
-  family = record {
-    shape = ap (λ (b : BookFacts). b.shape) is.book;
-    points = ap (λ
-        (b : BookFacts). b.points) is.book;
-  };
-  chunk = ap (λ (b : BookFacts). b.chunk) is.book;
-  file = ap (λ (b : BookFacts). b.file) is.book;
-  bytes = is.bytes;
-  losses = refl;
-}
-
-pub finds_files : (s : Script) (p k : ℕ) (files : List Resting) → AreBehind s k files
-    → AreFiles s p (facts_in (first_actors s p files))
-finds_files s p k files are = record {
-  count = length-map (first_actors s p files) (λ (a : Actor). a.facts)
-      ∙ length-map files (λ r. first_actor r 0 (losses_of s p)) ∙ are.count;
-  each = λ n line f at is.
-      let of = first_facts s p n files f is in
-      subst (IsFileOf s p n line) of.is (found s p k n line of.before (are.each n line of.before at of.at));
-}
-
-pub all_idle : (s : Script) (p : ℕ) (files : List Resting) → All IsIdle (first_actors s p files)
-all_idle s p files =
-    All-map IsIdle (λ r. first_actor r 0 (losses_of s p)) files
-    (All-from_get_or (λ r. IsIdle (first_actor r 0 (losses_of s p))) files (no_file tt)
-    (λ i within. record { right = refl; work = refl }))
-  where
-    no_file : Unit {0} → Resting
-    no_file u = new_file s 0 (record { name = []; content = given.Empty })
-
--- ---- what a phase leaves
-
-record Left (a : Actor) (r : Resting) : Type 0 where
-  world : World
-  is : r ≡ rested a.facts world
-
-left : (a : Actor) (r : Resting) → left_by a ≡ Some r → Left a r
-left a r e = go a.whole refl
-  where
-    go : (o : Option World) → a.whole ≡ o → Left a r
-    go (Some w) at =
-        let same : Some (rested a.facts w) ≡ Some r = ap (option_map (rested a.facts)) (sym at) ∙ e in
-        record { world = w; is = let n = same in cc }
-    go None at = absurd (let no = ap (option_map (rested a.facts)) (sym at) ∙ e in cc)
-
-either_zero : (b : Bool) (n : ℕ) → n ≡ 0 → cond b 0 n ≡ 0
-either_zero true n e = refl
-either_zero false n e = e
-
-behind_one : (s : Script) (k n : ℕ) (line : FileLine) (r : Resting) (f : Facts) (w : World) (new : Resting)
-    → IsBehind s k n line r → facts_of r 0 (losses_of s (suc k)) ≡ f → new ≡ rested f w → IsBehind s (suc k) n line new
-behind_one s k n line r f w new is facts e =
-    subst (IsBehind s (suc k) n line) (ap (λ g. rested g w) facts ∙ sym e) (record {
-      book = is.book;
-      bytes = is.bytes;
-      losses = refl;
-      born = either_zero _ _ (either_zero _ _ is.born);
-    })
-
-pub leaves : (s : Script) (k : ℕ) (files new : List Resting) (actors : List Actor) → AreBehind s k files
-    → facts_in actors ≡ facts_in (first_actors s (suc k) files) → map left_by actors ≡ map Some new
-    → AreBehind s (suc k) new
-leaves s k files new actors are facts rest = record {
-  count = sym (length-map new Some) ∙ ap length (sym rest) ∙ length-map actors left_by
-      ∙ sym (length-map actors (λ (a : Actor). a.facts)) ∙ ap length facts ∙ (finds_files s (suc k) k files are).count;
-  each = λ n line r at is.
-      let of = mapped left_by actors n (Some r) (ap (λ l. slice_get l n) rest ∙ map_at Some new n r is) in
-      let has = left of.before r of.is in
-      let first = first_facts s (suc k) n files of.before.facts
-      (ap (λ l. slice_get l n) (sym facts) ∙ map_at (λ (a : Actor). a.facts) actors n of.before of.at) in
-      behind_one s k n line first.before of.before.facts has.world r (are.each n line first.before at first.at) first.is
-      has.is;
-}
+    record {
+      count = are.count;
+      each = λ k line r at is.
+          let rests = are.each k line r at is in
+          record {
+            book = rests.book;
+            bytes = rests.bytes;
+            losses = ap (take (length r.losses)) more.1 ∙ front_more r.losses (losses_of s n) more.0 rests.losses;
+            born = omega (arith, rests.born, on);
+          };
+    }
 
 -- the files that are left are the script's, at rest
-pub of_lines : (s : Script) (phases : ℕ) (files all : List Resting) → AreBehind s phases files → files ≡ all
+pub of_lines : (s : Script) (phases now : ℕ) (files all : List Resting) → AllRestBy s phases now files → files ≡ all
     → All AtRest all → AreOfLines s files
-of_lines s phases files all are same rest =
+of_lines s phases now files all are same rest =
     let at_rest : All AtRest files = subst (All AtRest) (sym same) rest in
     record {
       count = are.count;
       each = λ n line r at is.
-          let behind = are.each n line r at is in
+          let rests = are.each n line r at is in
           record {
             rest = subst AtRest (get_or_from_slice_get files n r r is) (at_rest n r (slice_get_within files n r is));
-            book = behind.book;
-            bytes = behind.bytes;
+            book = rests.book;
+            bytes = rests.bytes;
           };
     }
 
 -- ---- phases and their clients
 
--- each phase has one client
-pub one_client : (items : List Item) (k : ℕ) → Singles items → k < length (phases_in items)
-    → length (get_or (phases_in items) k []) ≡ 1
-unfolding Singles IsSingle
-one_client [] k h within = absurd (omega (arith, within))
-one_client (item.Phase clients ∷ items) zero h within = h.0
-one_client (item.Phase clients ∷ items) (suc k) h within = one_client items k h.1 (omega (arith, within))
-
 pub phases_pushed : (items : List Item) (x : Item) → length (phases_in (items ++ x ∷ []))
     ≡ length (phases_in items) + length (phases_in (x ∷ []))
 phases_pushed [] x = omega arith
+phases_pushed (item.Tick n ∷ items) x = phases_pushed items x
 phases_pushed (item.Phase clients ∷ items) x = omega (arith, phases_pushed items x)
 
-pub few_phases : (items : List Item) → length (phases_in items) ≤ length items
-few_phases [] = omega arith
-few_phases (item.Phase clients ∷ items) = omega (arith, few_phases items)
+few_phases : (n : ℕ) (items : List Item) → length (phases_in (take n items)) ≤ length (phases_in items)
+few_phases zero items = omega arith
+few_phases (suc n) [] = omega arith
+few_phases (suc n) (item.Tick t ∷ items) = few_phases n items
+few_phases (suc n) (item.Phase clients ∷ items) = omega (arith, few_phases n items)
 
 in_phases : List (List Client) → ℕ
 in_phases [] = 0
@@ -295,6 +164,7 @@ in_phases (cs ∷ ps) = in_clients cs + in_phases ps
 phases_are : (items : List Item) → in_phases (phases_in items) ≡ in_items items
 unfolding in_phases in_items in_item
 phases_are [] = refl
+phases_are (item.Tick n ∷ items) = omega (arith, phases_are items)
 phases_are (item.Phase clients ∷ items) = ap (λ n. in_clients clients + n) (phases_are items)
 
 in_phases-push : (ps : List (List Client)) (cs : List Client) → in_phases (ps ++ cs ∷ []) ≡ in_phases ps + in_clients cs
@@ -315,23 +185,55 @@ runs_length s p c k [] before done after h = ap length h.0
 runs_length s p c k (x ∷ xs) before [] after h = absurd h
 runs_length s p c k (x ∷ xs) before (d ∷ done) after h = ap suc (runs_length s p c (k + 1) xs h.0 done after h.2)
 
+-- ---- how many commands a phase does
+
+-- its commands are no more than those of its clients, one client after another
+all_ran_few : (s : Script) (p c : ℕ) (files : List Facts) (clients : List Ran) → AllRan s p (c + 1) files clients
+    → c + length clients ≡ length (clients_of s p)
+    → length (flat_map (λ (r : Ran). r.done) clients) ≤ in_clients (drop c (clients_of s p))
+unfolding in_clients
+all_ran_few s p c files [] h e = omega arith
+all_ran_few s p c files (r ∷ clients) h e =
+    let cs = clients_of s p in
+    let none : Client = record { commands = [] } in
+    let here : c < length cs = omega (arith, e) in
+    let back : c + 1 - 1 ≡ c = omega arith in
+    let count : length r.done ≡ length (commands_of s p (c + 1)) =
+    runs_length s p (c + 1) 1 (commands_of s p (c + 1)) _ r.done r.actors h.0 in
+    let same : length (commands_of s p (c + 1)) ≡ length (get_or cs c none).commands =
+    ap (λ k. length (get_or cs k none).commands) back in
+    let split : in_clients (drop c cs) ≡ length (get_or cs c none).commands + in_clients (drop (c + 1) cs) =
+    ap in_clients (drop_more cs c none here) in
+    let more = all_ran_few s p (c + 1) files clients h.1 (omega (arith, e)) in
+    omega (arith, count, same, split, more, length-append r.done (flat_map (λ (r : Ran). r.done) clients))
+
+phase_few : (s : Script) (p now : ℕ) (before after : List Resting) (done : List Done)
+    → IsPhase s p now before done after → length done ≤ in_clients (clients_of s p)
+phase_few s p now before after done (inl h) =
+    let none : Client = record { commands = [] } in
+    omega (
+      arith,
+      runs_length s p 1 1 (commands_of s p 1) (first_actors s p now before) done h.actors h.runs,
+      first_client (clients_of s p) none refl,
+    )
+phase_few s p now before after done (inr h) =
+    let none : 0 + length h.clients ≡ length (clients_of s p) = omega (arith, h.count) in
+    let few = all_ran_few s p 0 h.files h.clients h.ran none in
+    omega (arith, ap length h.in_order, few)
+
 run_few : (s : Script) (n : ℕ) (done : List Done) (files : List Resting) → RunsTo s n done files
     → n ≤ length (phases_in s.items) → length done ≤ in_phases (take n (phases_in s.items))
 unfolding in_phases
 run_few s zero done files h within = omega (arith, ap length h.0)
 run_few s (suc n) done files h within =
     let ps = phases_in s.items in
-    let phase = h.4 in
     let before = run_few s n h.0 h.2 h.3 (omega (arith, within)) in
-    let count : length h.1 ≡ length (commands_of s (suc n) 1) =
-    runs_length s (suc n) 1 1 (commands_of s (suc n) 1) (first_actors s (suc n) h.2) h.1 phase.actors phase.runs in
-    let none : Client = record { commands = [] } in
     let back : suc n - 1 ≡ n = omega arith in
-    let first = first_client (get_or ps n []) none refl in
-    let same : length (commands_of s (suc n) 1) ≡ length (get_or (get_or ps n []) 0 none).commands =
-    ap (λ k. length (get_or (get_or ps k []) 0 none).commands) back in
+    let few = phase_few s (suc n) (ticks_before s (suc n)) h.2 files h.1 h.4 in
+    let same : in_clients (clients_of s (suc n)) ≡ in_clients (get_or ps n []) =
+    ap (λ k. in_clients (get_or ps k [])) back in
     let taken = ap in_phases (take-suc ps n [] (omega (arith, within))) ∙ in_phases-push (take n ps) (get_or ps n []) in
-    omega (arith, before, count, first, same, taken, ap length h.5, length-append h.0 h.1)
+    omega (arith, before, few, same, taken, ap length h.5, length-append h.0 h.1)
 
 pub plain_few : (s : Script) (done : List Done) (files : List Resting)
     → RunsTo s (length (phases_in s.items)) done files
@@ -349,57 +251,22 @@ plain_few s done files h few =
 
 -- ---- the phases in turn
 
-pub has_client : (s : Script) (n : ℕ) → Singles s.items → n < length (phases_in s.items) → HasClient s (n + 1) 1
-has_client s n single within =
-    let back : n + 1 - 1 ≡ n = omega arith in
-    let one : length (clients_of s (n + 1)) ≡ 1 =
-    ap (λ k. length (get_or (phases_in s.items) k [])) back ∙ one_client s.items n single within in
-    record { phases = (omega arith, omega (arith, within)); clients = (omega arith, omega (arith, one)) }
-
--- a phase that was run
-pub phase_ran : (s : Script) (n : ℕ) (files new : List Resting) (done : List Done) (was now : List Actor)
-    → Singles s.items → n < length (phases_in s.items) → AreBehind s n files → was ≡ first_actors s (n + 1) files
-    → Runs s (n + 1) 1 was done now → facts_in now ≡ facts_in was → map left_by now ≡ map Some new
-    → RunsPhase s (suc n) files done new × AreBehind s (suc n) new
-phase_ran s n files new done was now single within are first runs facts rest =
-    let next : n + 1 ≡ suc n = omega arith in
-    let back : suc n - 1 ≡ n = omega arith in
-    let begun : was ≡ first_actors s (suc n) files = first ∙ ap (λ p. first_actors s p files) next in (
-      record {
-        one = ap (λ k. length (get_or (phases_in s.items) k [])) back ∙ one_client s.items n single within;
-        actors = now;
-        runs = subst (λ p. Runs s p 1 (first_actors s (suc n) files) done now) next
-            (subst (λ as0. Runs s (n + 1) 1 as0 done now) begun runs);
-        rest = rest;
-      },
-      leaves s n files new now are (facts ∙ ap facts_in begun) rest,
-    )
-
-pub left_all : (xs ys : List PlainAccess) (files : List Resting) → xs ≡ ys
-    → map (λ a. left_by (actor_of a)) ys ≡ map Some files → map left_by (map actor_of xs) ≡ map Some files
-left_all xs ys files same is = map-map xs ∙ ap (map (λ a. left_by (actor_of a))) same ∙ is
-  where
-    map-map : (xs : List PlainAccess) → map left_by (map actor_of xs) ≡ map (λ a. left_by (actor_of a)) xs
-    map-map [] = refl
-    map-map (x ∷ xs) = ap (λ l. left_by (actor_of x) ∷ l) (map-map xs)
-
--- as many accesses are written back as were lent
-pub lent : (n : ℕ) (was xs ys : List PlainAccess) → length was ≡ n
-    → facts_in (map actor_of xs) ≡ facts_in (map actor_of was) → xs ≡ take n (xs ++ ys)
-lent n was xs ys long facts =
-    let count : (l : List PlainAccess) → length (facts_in (map actor_of l)) ≡ length l =
-    λ l. length-map (map actor_of l) (λ (a : Actor). a.facts) ∙ length-map l actor_of in
-    let same : length xs ≡ n = sym (count xs) ∙ ap length facts ∙ count was ∙ long in
-    sym (take-append_seam xs ys) ∙ ap (λ k. take k (xs ++ ys)) same
+pub has_phase : (s : Script) (n : ℕ) → n < length (phases_in s.items) → HasPhase s (n + 1)
+has_phase s n within = (omega arith, omega (arith, within))
 
 -- one phase more
-pub run_next : (s : Script) (n : ℕ) (P : Done → Type 0) (done more new : List Done) (files mid : List Resting)
-    → RunsTo s n done files → RunsPhase s (suc n) files more mid → AreBehind s (suc n) mid → All P done → All P more
-    → new ≡ done ++ more → RunsTo s (n + 1) new mid × AreBehind s (n + 1) mid × All P new
-run_next s n P done more new files mid so_far phase are small next_small is =
-    let next : suc n ≡ n + 1 = omega arith in (
-      subst (λ k. RunsTo s k new mid) next (done, more, files, so_far, phase, is),
-      subst (λ k. AreBehind s k mid) next are,
+pub run_next : (s : Script) (n : ℕ) (P : Done → Type 0) (done more new : List Done) (files mid : List Resting) (now : ℕ)
+    → now ≡ ticks_before s (n + 1) → RunsTo s n done files → IsPhase s (n + 1) now files more mid
+    → AllRestBy s (n + 1) now mid → All P done → All P more → new ≡ done ++ more
+    → RunsTo s (n + 1) new mid × AllRestBy s (n + 1) (ticks_before s (n + 1)) mid × All P new
+run_next s n P done more new files mid now at so_far phase are small next_small is =
+    let next : suc n ≡ n + 1 = omega arith in
+    let then : IsPhase s (n + 1) (ticks_before s (n + 1)) files more mid =
+    subst (λ k. IsPhase s (n + 1) k files more mid) at phase in
+    let mine : IsPhase s (suc n) (ticks_before s (suc n)) files more mid =
+    subst (λ k. IsPhase s k (ticks_before s k) files more mid) (sym next) then in (
+      subst (λ k. RunsTo s k new mid) next (done, more, files, so_far, mine, is),
+      subst (λ k. AllRestBy s (n + 1) k mid) at are,
       subst (All P) (sym is) (All-append P done more small next_small),
     )
 
@@ -419,7 +286,6 @@ count_next items xs n x count one are within at so_far is =
     ∙ ap (λ l. take n items ++ l ∷ []) (ap (λ l. get_or l n x) (sym are) ∙ sym at) in
     omega (arith, so_far, is, phases_pushed (take n items) x, ap (λ l. length (phases_in l)) taken)
 
-pub count_fits : (items : List Item) (n count : ℕ) → count ≡ length (phases_in (take n items)) → length items ≤ 64
-    → count ≤ 64
-count_fits items n count e few =
-    omega (arith, e, few, few_phases (take n items), length-take n items)
+pub count_fits : (items : List Item) (n count : ℕ) → count ≡ length (phases_in (take n items))
+    → length (phases_in items) ≤ 64 → count ≤ 64
+count_fits items n count e few = omega (arith, e, few, few_phases n items)

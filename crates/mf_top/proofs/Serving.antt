@@ -22,7 +22,7 @@ use Rattle.mf_client.specs.declared.done.Outcome.{Outcome}
 use Rattle.mf_client.specs.declared.done.Outcome.TheVariants as outcome
 use Rattle.mf_client.specs.Acts.{IsReadOut}
 use Rattle.mf_top.specs.Laws.{IsServed, ReadsAreServed}
-use Rattle.mf_top.proofs.Running.{mapped}
+use Rattle.mf_crew.proofs.Phased.{mapped}
 
 -- nothing is cut off, and the calls are promised what is promised of their answers
 record Fair (cs : List Call) (a : Actor) : Type 0 where

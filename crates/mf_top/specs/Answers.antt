@@ -1,5 +1,5 @@
 -- What the program answers to its words, and to the text that its source has left.
-use Rattle.std.specs.Prelude.{◌≡◌, ◌≢◌, ℕ, true, false, List, [], ◌∷◌, codes}
+use Rattle.std.specs.Prelude.{◌≡◌, ◌≢◌, ℕ, Bool, true, false, List, [], ◌∷◌, codes}
 use Rattle.std.specs.List.{list_any}
 use Rattle.mf_lines.specs.declared.parts.Kind.TheVariants as kind
 use Rattle.mf_lines.specs.declared.parts.ScriptFault.{ScriptFault}
@@ -9,7 +9,7 @@ use Rattle.mf_script.specs.Scripts.{IsScript}
 use Rattle.mf_plain.specs.Resting.{Resting}
 use Rattle.mf_client.specs.declared.done.Done.{Done}
 use Rattle.mf_client.specs.Lacks.{lacks_memory}
-use Rattle.mf_report.specs.Report.{report_text}
+use Rattle.mf_report.specs.Json.{written_text}
 use Rattle.mf_report.specs.Verdicts.{accepted_text, refused_text, words_refusal}
 use Rattle.mf_top.specs.PlainRun.{AreOfLines, IsPlainRun}
 use Rattle.mf_top.specs.declared.Task.{Task}
@@ -17,7 +17,8 @@ use Rattle.mf_top.specs.declared.Task.TheVariants.{Run, Check}
 
 -- the words that ask for a task
 abbrev pub task_words : Task → List (List ℕ)
-task_words Run = codes "run" ∷ []
+task_words (Run false) = codes "run" ∷ []
+task_words (Run true) = codes "run" ∷ codes "--json" ∷ []
 task_words Check = codes "check" ∷ []
 
 -- the words ask for a task, and so for a text
@@ -39,14 +40,16 @@ pub record IsRun (text : List ℕ) (s : Script) (done : List Done) (files : List
   pub run : IsPlainRun s done files
   pub left : AreOfLines s files
 
--- The status of an answer, and its bytes. With `run` a script has the report of its run: with status 0 where no command
--- lacked memory, and with 5 where one did. With `check` it has the line of its family. Any other text has the line of
+-- The status of an answer, and its bytes. With `run` a script has the report of its run, as lines or as JSON: with
+-- status 0 where no command lacked memory, and with 5 where one did. With `check` it has the line of its family. Any other text has the line of
 -- its fault. Other words have the line that refuses them, whatever the text is.
 pub data IsAnswer : List (List ℕ) → List ℕ → ℕ → List ℕ → Type 0 where
-  reported : {text : List ℕ} (s : Script) (done : List Done) (files : List Resting) → IsRun text s done files
-      → list_any lacks_memory done ≡ false → IsAnswer (task_words Run) text 0 (report_text s done files)
-  lacked : {text : List ℕ} (s : Script) (done : List Done) (files : List Resting) → IsRun text s done files
-      → list_any lacks_memory done ≡ true → IsAnswer (task_words Run) text 5 (report_text s done files)
+  reported : {text : List ℕ} (json : Bool) (s : Script) (done : List Done) (files : List Resting)
+      → IsRun text s done files → list_any lacks_memory done ≡ false
+      → IsAnswer (task_words (Run json)) text 0 (written_text json s done files)
+  lacked : {text : List ℕ} (json : Bool) (s : Script) (done : List Done) (files : List Resting)
+      → IsRun text s done files → list_any lacks_memory done ≡ true
+      → IsAnswer (task_words (Run json)) text 5 (written_text json s done files)
   accepted : {text : List ℕ} (s : Script) → IsScript text s
       → IsAnswer (task_words Check) text 0 (accepted_text (main_of s).stages)
   refused : {text : List ℕ} (task : Task) (fault : ScriptFault) → IsRefused text fault

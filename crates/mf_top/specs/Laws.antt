@@ -1,5 +1,6 @@
 -- Laws of what the program answers, and of how a call ends.
-use Rattle.std.specs.Prelude.{◌≡◌, ◌≢◌, ℕ, ◌<◌, ◌⊎◌, List, ◌++◌, codes, length, slice_get, slice_index_or, Some}
+use Rattle.std.specs.Prelude.{◌≡◌, ◌≢◌, ℕ, ◌<◌, ◌⊎◌, Bool, List, ◌++◌, codes, length, slice_get, slice_index_or}
+use Rattle.std.specs.Prelude.{Some}
 use Rattle.sha2.specs.Sha256.{sha256}
 use Rattle.mf_text.specs.Hex.{hex_text}
 use Rattle.mf_io.specs.Faults.{HasRisen}
@@ -13,6 +14,7 @@ use Rattle.mf_lines.specs.declared.parts.ScriptFault.{ScriptFault}
 use Rattle.mf_lines.specs.Meaning.{Script}
 use Rattle.mf_script.specs.Contents.{bytes_in}
 use Rattle.mf_script.specs.Laws.{bare}
+use Rattle.mf_script.specs.Phases.{clients_of}
 use Rattle.mf_script.specs.Scripts.{IsScript}
 use Rattle.mf_vault.specs.declared.answers.Rest.TheVariants as rest
 use Rattle.mf_vault.specs.declared.io.Io.{Io}
@@ -32,7 +34,7 @@ use Rattle.mf_report.specs.Counts.{io_text}
 use Rattle.mf_report.specs.Dumps.{chunk_text}
 use Rattle.mf_report.specs.Report.{took, conversions}
 use Rattle.mf_report.specs.Verdicts.{refused_text}
-use Rattle.mf_top.specs.PlainRun.{book_of}
+use Rattle.mf_crew.specs.Files.{HasPhase, book_of}
 use Rattle.mf_top.specs.Answers.{task_words, IsRun, IsAnswer}
 use Rattle.mf_top.specs.Ends.{Call, Ends}
 use Rattle.mf_top.specs.declared.Task.TheVariants.{Run, Check}
@@ -48,10 +50,15 @@ pub record RefusesAlike (x y : List ℕ) : Type 0 where
   pub line : one.line ≡ other.line
   pub kind : bare one.kind ≡ bare other.kind
 
--- Words and a text have one status and one answer, where no command lacks memory.
+-- each phase of the script has one client
+abbrev pub IsPlain : Script → Type 0
+IsPlain s = (phase : ℕ) → HasPhase s phase → length (clients_of s phase) ≡ 1
+
+-- Words and a text have one status and one answer, where no command lacks memory, and no phase has several clients.
 abbrev pub OneAnswer : Type 0
-OneAnswer = (words : List (List ℕ)) (text : List ℕ) (m n : ℕ) (x y : List ℕ) → IsAnswer words text m x
-    → IsAnswer words text n y → m ≢ 5 → n ≢ 5 → (m ≡ n) × ((x ≡ y) ⊎ RefusesAlike x y)
+OneAnswer = (words : List (List ℕ)) (text : List ℕ) (m n : ℕ) (x y : List ℕ)
+    → ((s : Script) → IsScript text s → IsPlain s) → IsAnswer words text m x → IsAnswer words text n y → m ≢ 5
+    → n ≢ 5 → (m ≡ n) × ((x ≡ y) ⊎ RefusesAlike x y)
 
 -- no read of the call failed, and no write
 pub record NothingFailed (c : Call) : Type 0 where
@@ -60,8 +67,9 @@ pub record NothingFailed (c : Call) : Type 0 where
 
 -- Where nothing failed, a call that runs a script ends with 0 or 5, and one that tries a family with 0, 1 or 5.
 pub record Completes : Type 0 where
-  pub run : (c : Call) (status : Status) (text : List ℕ) (s : Script) → Ends c status → c.words ≡ task_words Run
-      → c.left ≡ Some text → IsScript text s → NothingFailed c → (status ≡ ended.Done) ⊎ (status ≡ ended.Memory)
+  pub run : (json : Bool) (c : Call) (status : Status) (text : List ℕ) (s : Script) → Ends c status
+      → c.words ≡ task_words (Run json) → c.left ≡ Some text → IsScript text s → NothingFailed c
+      → (status ≡ ended.Done) ⊎ (status ≡ ended.Memory)
   pub check : (c : Call) (status : Status) → Ends c status → c.words ≡ task_words Check → NothingFailed c
       → (status ≡ ended.Done) ⊎ ((status ≡ ended.Refused) ⊎ (status ≡ ended.Memory))
 

@@ -1,31 +1,17 @@
--- *Plain run*: what the phases of a script do, one after the other, where each has one client.
-use Rattle.std.specs.Prelude.{◌≡◌, ℕ, zero, suc, ◌+◌, List, [], ◌∷◌, ◌++◌, length, map, slice_get, Option, Some}
-use Rattle.std.specs.Option.{option_map}
-use Rattle.mf_places.specs.Facts.{BookFacts}
+-- *Licensed report*: what the phases of a script do, one after the other, each by one client or by several.
+use Rattle.std.specs.Prelude.{◌≡◌, ℕ, zero, suc, ◌+◌, List, [], ◌∷◌, ◌++◌, length, slice_get, Some}
 use Rattle.mf_lines.specs.declared.parts.FileLine.{FileLine}
-use Rattle.mf_lines.specs.Meaning.{Script}
+use Rattle.mf_lines.specs.Meaning.{Script, phases_in}
 use Rattle.mf_script.specs.Contents.{bytes_in}
-use Rattle.mf_script.specs.Losses.{losses_of}
-use Rattle.mf_vault.specs.Actor.{Actor}
+use Rattle.mf_script.specs.Phases.{ticks_before}
 use Rattle.mf_plain.specs.Resting.{Resting, AtRest, unborn}
-use Rattle.mf_plain.specs.Alone.{first_actor, rested}
 use Rattle.mf_client.specs.declared.done.Done.{Done}
-use Rattle.mf_client.specs.Clients.{family_of, clients_of, phases_in}
-use Rattle.mf_client.specs.Runs.{Runs}
+use Rattle.mf_crew.specs.Files.{book_of}
+use Rattle.mf_crew.specs.Live.{IsPhase}
 
 -- ---- the files before the first phase
 
--- what the book lays out of the script's file of this number and this line
-abbrev pub book_of : Script → ℕ → FileLine → BookFacts
-book_of s n line = record {
-  shape = (family_of s).shape;
-  points = (family_of s).points;
-  chunk = s.chunk;
-  file = n;
-  bytes = length (bytes_in line.content);
-}
-
--- that file, not created
+-- the script's file of this number and this line, not created
 abbrev pub new_file : Script → ℕ → FileLine → Resting
 new_file s n line = unborn (book_of s n line) (bytes_in line.content)
 
@@ -52,33 +38,14 @@ pub record AreOfLines (s : Script) (files : List Resting) : Type 0 where
   pub each : (n : ℕ) (line : FileLine) (r : Resting) → slice_get s.files n ≡ Some line → slice_get files n ≡ Some r
       → IsOfLine s n line r
 
--- ---- a phase
-
--- the only actor of each file at rest, as the phase begins
-abbrev pub first_actors : Script → (phase : ℕ) → List Resting → List Actor
-first_actors s phase files = map (λ r. first_actor r 0 (losses_of s phase)) files
-
--- the file at rest that is left of what an actor tells
-abbrev pub left_by : Actor → Option Resting
-left_by a = option_map (rested a.facts) a.whole
-
--- The phase has one client. Its commands, done so, led from the first actor of each file to these actors, which leave
--- the files at rest again.
-pub record RunsPhase (s : Script) (phase : ℕ) (before : List Resting) (done : List Done) (after : List Resting)
-    : Type 0 where
-  pub one : length (clients_of s phase) ≡ 1
-  pub actors : List Actor
-  pub runs : Runs s phase 1 (first_actors s phase before) done actors
-  pub rest : map left_by actors ≡ map Some after
-
 -- ---- all phases
 
 -- the first n phases led from the script's new files to these at rest, and their commands were done so
 abbrev pub RunsTo : Script → (n : ℕ) → List Done → List Resting → Type 0
 RunsTo s zero done files = (done ≡ []) × (files ≡ new_files s)
 RunsTo s (suc n) done files =
-    (before last : List Done) × (mid : List Resting) × RunsTo s n before mid × RunsPhase s (suc n) mid last files
-    × (done ≡ before ++ last)
+    (before last : List Done) × (mid : List Resting) × RunsTo s n before mid
+    × IsPhase s (suc n) (ticks_before s (suc n)) mid last files × (done ≡ before ++ last)
 
 -- the commands of all phases were done so, and these files are left
 abbrev pub IsPlainRun : Script → List Done → List Resting → Type 0

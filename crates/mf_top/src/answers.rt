@@ -17,13 +17,16 @@ use mf_io::Sink;
 use mf_report::{ReportFault, accepted_line, refused_line, report};
 use mf_script::{Kind, Script, ScriptFault, read_script};
 use std::alloc::Global;
+use std::sync::Wait;
+use std::thread::Threads;
 
-/// Does the task with the script that the text is, and writes the answer, or writes what is wrong
-/// with the text. Says with which status the call ends.
-pub fn answer<K: Sink, T: Turnstile>(
+/// Runs the script that the text is, and writes the report, as JSON or as lines; or writes what is wrong with the text.
+/// Says with which status the call ends.
+pub fn answer_to_run<R: Threads + Wait + Sync, K: Sink, T: Turnstile>(
+    rt: &R,
     alloc: Global,
-    task: Task,
     text: &[u8],
+    json: bool,
     sink: &mut K,
     turnstile: &T,
 ) -> Status
@@ -32,41 +35,36 @@ pub fn answer<K: Sink, T: Turnstile>(
       written_now = K.written sink.new;
       faults = K.faults sink.old;
       faults_now = K.faults sink.new;
-    }) (task_words task) text.now result }
+    }) (task_words (Task.Run json)) text.now result }
 {
     match read_script(alloc, text) {
-        Ok(script) => answer_script(alloc, task, &script, sink, turnstile),
+        Ok(script) => answer_run(rt, alloc, &script, json, sink, turnstile),
         Err(fault) => answer_fault(alloc, &fault, sink),
     }
 }
 
-// Does the task with a script, and writes the answer.
-fn answer_script<K: Sink, T: Turnstile>(
-    alloc: Global,
-    task: Task,
-    script: &Script,
-    sink: &mut K,
-    turnstile: &T,
-) -> Status
-    requires { IsOfText script.now }
-    ensures { (text : List ℕ) → IsScript text script.now
-        → Writes (record {
-          written = K.written sink.old;
-          written_now = K.written sink.new;
-          faults = K.faults sink.old;
-          faults_now = K.faults sink.new;
-        }) (task_words task) text result }
+/// Writes the line of the family of the script that the text is, or what is wrong with the text.
+/// Says with which status the call ends.
+pub fn answer_to_check<K: Sink>(alloc: Global, text: &[u8], sink: &mut K) -> Status
+    ensures { Writes (record {
+      written = K.written sink.old;
+      written_now = K.written sink.new;
+      faults = K.faults sink.old;
+      faults_now = K.faults sink.new;
+    }) (task_words Task.Check) text.now result }
 {
-    match task {
-        Task::Run => answer_run(alloc, script, sink, turnstile),
-        Task::Check => answer_check(alloc, script, sink),
+    match read_script(alloc, text) {
+        Ok(script) => answer_check(alloc, &script, sink),
+        Err(fault) => answer_fault(alloc, &fault, sink),
     }
 }
 
-// Runs the script, and writes the report.
-fn answer_run<K: Sink, T: Turnstile>(
+// Runs the script, and writes the report, as JSON or as lines.
+fn answer_run<R: Threads + Wait + Sync, K: Sink, T: Turnstile>(
+    rt: &R,
     alloc: Global,
     script: &Script,
+    json: bool,
     sink: &mut K,
     turnstile: &T,
 ) -> Status
@@ -77,12 +75,12 @@ fn answer_run<K: Sink, T: Turnstile>(
           written_now = K.written sink.new;
           faults = K.faults sink.old;
           faults_now = K.faults sink.new;
-        }) (task_words Task.Run) text result }
+        }) (task_words (Task.Run json)) text result }
 {
-    let Ok(ran) = run(alloc, script, turnstile) else {
+    let Ok(ran) = run(rt, alloc, script, turnstile) else {
         return Status::Memory;
     };
-    match report(alloc, sink, script, &ran.done, &ran.files) {
+    match report(alloc, sink, script, &ran.done, &ran.files, json) {
         Ok(()) => status_of(&ran.done),
         Err(ReportFault::Sink) => Status::SinkFault,
         Err(ReportFault::Memory) => Status::Memory,

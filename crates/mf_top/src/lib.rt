@@ -11,14 +11,16 @@ mod laws;
 mod phases;
 mod writing;
 
-use answers::answer;
+use answers::{answer_to_check, answer_to_run};
 pub use laws::{
     conversions_read_no_data, digests_are_of_cells, ends_well, one_answer, reads_are_served,
 };
-use mf_client::{Free, Turnstile};
+use mf_client::Turnstile;
 use mf_io::{ReadAll, Sink, Source, read_all};
 use mf_report::{too_long_line, words_line};
 use std::alloc::Global;
+use std::sync::Wait;
+use std::thread::Threads;
 use writing::write_answer;
 
 /// The greatest number of bytes of a script.
@@ -27,8 +29,8 @@ const TEXT_LIMIT: usize = 1_048_576;
 /// What the words of a call ask for.
 #[derive(Clone, Copy, Debug, PartialEq, Eq)]
 enum Task {
-    /// To run a script.
-    Run,
+    /// To run a script, and to write the report as JSON or as lines.
+    Run { json: bool },
     /// To try the family of a script.
     Check,
 }
@@ -52,8 +54,8 @@ enum Status {
 
 /// Does what the words ask for, which stand after the program's name, and answers the program's
 /// status. With the one word `run` it reads a script from the source, runs its phases one after the
-/// other over files that aren't created yet, and writes the report to the sink. With the one word
-/// `check` it does as `morph_check`. The turnstile is told of each client before each of its
+/// other over files that aren't created yet, and writes the report to the sink; with `run --json` it
+/// writes it as JSON. With the one word `check` it does as `morph_check`. The turnstile is told of each client before each of its
 /// commands. The status is:
 ///
 /// - 0: the script was read to its end, and its report or line was written whole; no command lacked
@@ -64,8 +66,8 @@ enum Status {
 /// - 4: a write failed, and a front of the report or line was written;
 /// - 5: memory ran out, and nothing was written; or a command lacked memory, and the report that
 ///   says so was written whole.
-pub fn morph<R, S: Source, K: Sink, T: Turnstile>(
-    _rt: &R,
+pub fn morph<R: Threads + Wait + Sync, S: Source, K: Sink, T: Turnstile>(
+    rt: &R,
     alloc: Global,
     words: &[String],
     source: &mut S,
@@ -86,7 +88,7 @@ pub fn morph<R, S: Source, K: Sink, T: Turnstile>(
       };
     }) status }
 {
-    end_of(alloc, words, source, sink, turnstile) as u8
+    end_of(rt, alloc, words, source, sink, turnstile) as u8
 }
 
 /// Tries the family of the script that the source has left. It writes one line: `family ok stages
@@ -107,11 +109,12 @@ pub fn morph_check<S: Source, K: Sink>(alloc: Global, source: &mut S, sink: &mut
       };
     }) status }
 {
-    end_of_task(alloc, Task::Check, source, sink, &Free) as u8
+    end_of_check(alloc, source, sink) as u8
 }
 
 // How a call with these words ends.
-fn end_of<S: Source, K: Sink, T: Turnstile>(
+fn end_of<R: Threads + Wait + Sync, S: Source, K: Sink, T: Turnstile>(
+    rt: &R,
     alloc: Global,
     words: &[String],
     source: &mut S,
@@ -133,7 +136,8 @@ fn end_of<S: Source, K: Sink, T: Turnstile>(
     }) result }
 {
     match task_of(words) {
-        Some(task) => end_of_task(alloc, task, source, sink, turnstile),
+        Some(Task::Run { json }) => end_of_run(rt, alloc, json, source, sink, turnstile),
+        Some(Task::Check) => end_of_check(alloc, source, sink),
         None => write_answer(sink, words_line(), Status::Words),
     }
 }
@@ -145,6 +149,7 @@ fn task_of(words: &[String]) -> Option<Task>
 {
     match words {
         [word] => task_named(word.as_str()),
+        [word, option] => task_with(word.as_str(), option.as_str()),
         _ => None,
     }
 }
@@ -155,7 +160,7 @@ fn task_named(word: &str) -> Option<Task>
         (λ task. word.now ∷ [] ≡ task_words task) }
 {
     if word == "run" {
-        Some(Task::Run)
+        Some(Task::Run { json: false })
     } else if word == "check" {
         Some(Task::Check)
     } else {
@@ -163,16 +168,29 @@ fn task_named(word: &str) -> Option<Task>
     }
 }
 
-// How a task ends.
-fn end_of_task<S: Source, K: Sink, T: Turnstile>(
+// The task of this name with this option.
+fn task_with(word: &str, option: &str) -> Option<Task>
+    ensures { MatchOption result (AsksNothing (word.now ∷ option.now ∷ []))
+        (λ task. word.now ∷ option.now ∷ [] ≡ task_words task) }
+{
+    if word == "run" && option == "--json" {
+        Some(Task::Run { json: true })
+    } else {
+        None
+    }
+}
+
+// How the run of a script ends.
+fn end_of_run<R: Threads + Wait + Sync, S: Source, K: Sink, T: Turnstile>(
+    rt: &R,
     alloc: Global,
-    task: Task,
+    json: bool,
     source: &mut S,
     sink: &mut K,
     turnstile: &T,
 ) -> Status
     ensures { Ends (record {
-      words = task_words task;
+      words = task_words (Task.Run json);
       left = S.left source.old;
       left_now = S.left source.new;
       faults = S.faults source.old;
@@ -186,7 +204,31 @@ fn end_of_task<S: Source, K: Sink, T: Turnstile>(
     }) result }
 {
     match read_all(alloc, source, TEXT_LIMIT) {
-        Ok(text) => answer(alloc, task, &text, sink, turnstile),
+        Ok(text) => answer_to_run(rt, alloc, &text, json, sink, turnstile),
+        Err(ReadAll::TooLong) => write_answer(sink, too_long_line(), Status::Refused),
+        Err(ReadAll::Fault) => Status::SourceFault,
+        Err(ReadAll::Memory) => Status::Memory,
+    }
+}
+
+// How the check of a script's family ends.
+fn end_of_check<S: Source, K: Sink>(alloc: Global, source: &mut S, sink: &mut K) -> Status
+    ensures { Ends (record {
+      words = task_words Task.Check;
+      left = S.left source.old;
+      left_now = S.left source.new;
+      faults = S.faults source.old;
+      faults_now = S.faults source.new;
+      output = record {
+        written = K.written sink.old;
+        written_now = K.written sink.new;
+        faults = K.faults sink.old;
+        faults_now = K.faults sink.new;
+      };
+    }) result }
+{
+    match read_all(alloc, source, TEXT_LIMIT) {
+        Ok(text) => answer_to_check(alloc, &text, sink),
         Err(ReadAll::TooLong) => write_answer(sink, too_long_line(), Status::Refused),
         Err(ReadAll::Fault) => Status::SourceFault,
         Err(ReadAll::Memory) => Status::Memory,

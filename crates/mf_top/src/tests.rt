@@ -1,3 +1,4 @@
+mod json;
 mod rows;
 
 use super::*;
@@ -141,13 +142,19 @@ const CHECKS: [Case; 8] = [
     Case("check", TWO_STAGES, 0, 2, 4, "family "),
 ];
 
-/// What a call with these words, this text and these failures answers and writes.
-fn try_case(rt: &impl Abort, alloc: Global, case: Case) -> Result<(), Fail> {
-    let Case(asked, text, read, write, status, written) = case;
+/// The words between these spaces.
+fn words_of(alloc: Global, asked: &str) -> Result<Vec<String>, Fail> {
     let mut words = Vec::new(alloc);
     for word in asked.split_whitespace() {
         words.push(String::from_str(alloc, word)?)?;
     }
+    Ok(words)
+}
+
+/// What a call with these words, this text and these failures answers and writes.
+fn try_case(rt: &(impl Abort + Threads + Wait + Sync), alloc: Global, case: Case) -> Result<(), Fail> {
+    let Case(asked, text, read, write, status, written) = case;
+    let words = words_of(alloc, asked)?;
     let bytes = Vec::from_slice(alloc, text.as_bytes())?;
     let mut source = MemorySource::new(bytes, 7, vec![in alloc; read]?);
     let mut sink = MemorySink::new(alloc, 7, vec![in alloc; write]?);

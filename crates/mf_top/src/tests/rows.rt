@@ -1,11 +1,13 @@
-//! Scripts worked by hand, with their whole reports.
+//! Scripts with their whole reports, which come from an independent model of the commands.
 
 use crate::morph;
 use mf_client::Free;
 use mf_io::{MemorySink, MemorySource};
 use std::alloc::Global;
 use std::process::Abort;
+use std::sync::Wait;
 use std::test::Fail;
+use std::thread::Threads;
 
 // An empty file through every command.
 const AN_EMPTY_FILE: &str = "\
@@ -461,7 +463,7 @@ const LOSSES_OF_TWO_PHASES_REPORT: &str = "\
     end\n";
 
 /// A script, and its report.
-const RUNS: [(&str, &str); 12] = [
+pub const RUNS: [(&str, &str); 12] = [
     (AN_EMPTY_FILE, AN_EMPTY_FILE_REPORT),
     (A_SHORT_STRIPE, A_SHORT_STRIPE_REPORT),
     (A_CONVERSION, A_CONVERSION_REPORT),
@@ -478,7 +480,7 @@ const RUNS: [(&str, &str); 12] = [
 
 /// What the program writes for a script, with status 0.
 fn try_script(
-    rt: &impl Abort,
+    rt: &(impl Abort + Threads + Wait + Sync),
     alloc: Global,
     at: usize,
     text: &str,

@@ -1,0 +1,51 @@
+//! A phase, run by its clients.
+
+ghost use Rattle.std.specs.Prelude.{All, IfOk};
+ghost use Rattle.mf_client.specs.declared.done.Done.{Done};
+ghost use Rattle.mf_client.specs.Runs.{IsSmall};
+ghost use Rattle.mf_crew.specs.Files.{HasPhase, AllRestBy};
+ghost use Rattle.mf_crew.specs.Live.{IsPhase};
+
+use crate::alone::run_alone;
+use mf_client::{Done, Turnstile};
+use mf_plain::Plain;
+use mf_script::Script;
+use std::alloc::{AllocError, Global};
+use std::sync::Wait;
+use std::thread::Threads;
+
+/// A phase that was run.
+#[derive(Drop)]
+pub struct PhaseRun {
+    /// The files, at rest again.
+    pub files: Vec<Plain>,
+    /// What the commands did, client after client, and in the order of each.
+    pub done: Vec<Done>,
+}
+
+/// Runs a phase of a script over the script's files, in their order. Phases are numbered from 1,
+/// and `now` is how many ticks went before the phase. The turnstile is told of each client before
+/// each of its commands. Pins and rights end with the phase.
+///
+/// The only error is want of memory outside of a command; nothing is handed back then.
+pub fn run_phase<R: Threads + Wait + Sync, T: Turnstile>(
+    _rt: &R,
+    alloc: Global,
+    files: Vec<Plain>,
+    script: &Script,
+    phase: u32,
+    now: u64,
+    turnstile: &T,
+) -> Result<PhaseRun, AllocError>
+    requires phase { HasPhase script.now phase }
+    requires rest { AllRestBy script.now phase now files.items }
+    ensures runs { IfOk result (λ ran.
+        IsPhase script.now phase now files.items ran.done.items ran.files.items) }
+    ensures rest { IfOk result (λ ran. AllRestBy script.now phase now ran.files.items) }
+    ensures small { IfOk result (λ ran. All (λ (d : Done). IsSmall d.io) ran.done.items) }
+{
+    // A script's phases have one client each.
+    let _ = script.items();
+    let ran = run_alone(alloc, files, script, phase, now, turnstile)?;
+    Ok(ran)
+}

@@ -1,0 +1,24 @@
+use Rattle.std.proofs.Common.{◌≡◌, ◌++◌, ◌∙◌, ap, map, length, arith}
+use Rattle.std.specs.List.{range_with_len}
+use Rattle.serde_json.specs.Data.{string}
+use Rattle.serde_json.specs.View.{view}
+use Rattle.mf_places.specs.Facts.{BookFacts}
+use Rattle.mf_report.specs.Dumps.{generation_text}
+use Rattle.mf_report.proofs.Values.{value_next}
+use Rattle.mf_report.proofs.json.add_generations.Goals as goal
+
+pub loop-g-preserved : goal.loop-g-preserved
+loop-g-preserved c =
+    value_next (λ x. string (generation_text c.args.plain.now x)) c.loop-g.g c.args.list.now.items c.loop-g.list.items
+    c.push.new.self.items c.in_ok-generation_value.field-0 c.loop-g.invariant c.in_ok-push.ensures.items
+    c.in_ok-generation_value.ensures
+
+pub returns : goal.returns
+returns c =
+    let many = c.stages-g-end.ensures.value ∙ ap (λ (b : BookFacts). length b.shape.stages) c.book.ensures in
+    let most = c.loop-g-test.false in
+    let least = c.loop-g.auto.g-end in
+    let all : c.loop-g.g ≡ length c.args.plain.now.book.shape.stages = omega arith in
+    c.loop-g.invariant
+    ∙ ap (λ m. map view c.args.list.now.items
+    ++ map (λ x. string (generation_text c.args.plain.now x)) (range_with_len 0 m)) all

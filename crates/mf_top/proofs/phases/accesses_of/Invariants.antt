@@ -1,7 +1,0 @@
-use Rattle.std.proofs.Common.{◌≡◌, map}
-use Rattle.mf_plain.specs.Alone.{first_actor}
-use Rattle.mf_plain.specs.Whole.{actor_of}
-use Rattle.mf_top.proofs.phases.accesses_of.Given as goal
-
-abbrev pub invariant-loop-plain : goal.invariant-loop-plain
-invariant-loop-plain l = map actor_of l.accesses.items ≡ map (λ r. first_actor r 0 l.losses) l.yielded

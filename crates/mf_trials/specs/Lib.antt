@@ -1,2 +1,3 @@
 pub mod Stores
 pub mod Mendings
+pub mod Turns

@@ -27,3 +27,5 @@ mod plain;
 mod sharing;
 #[cfg(test)]
 mod stores;
+#[cfg(test)]
+mod turns;

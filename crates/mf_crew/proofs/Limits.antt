@@ -1,4 +1,4 @@
--- What a script keeps: its limits, and that each phase has one client.
+-- What a script keeps: its limits.
 use Rattle.std.proofs.Common.{◌≡◌, ℕ, zero, suc, ◌+◌, ◌<◌, ◌≤◌, Bool, true, false, not, ◌&&◌, ◌||◌, eqb, ltb, leb}
 use Rattle.std.proofs.Common.{List, [], ◌∷◌, ◌++◌, length, Option, Some, None, Result, Ok, Err, refl, sym, ap, ◌∙◌}
 use Rattle.std.proofs.Common.{subst, arith}
@@ -32,7 +32,7 @@ use Rattle.mf_lines.specs.Words.{◌>>=◌, refuse, word_of, content_word_of, no
 use Rattle.mf_lines.specs.Words.{number_in, spelled, small, three_words}
 use Rattle.mf_shape.specs.declared.Stage.{Stage}
 use Rattle.std.specs.List.{list_any}
-use Rattle.mf_lines.specs.Meaning.{SoFar, Script, so_before, so_with, so_of, with_line, with_form, on_last, with_client, clients_with}
+use Rattle.mf_lines.specs.Meaning.{SoFar, Script, so_before, so_with, so_of, with_line, with_form, on_last, with_client}
 use Rattle.mf_lines.specs.Meaning.{client_with, with_command, names_in, phases_in, first_word, main_of}
 use Rattle.mf_lines.specs.Lines.{is_above, numbers_in, points_in, points_form, stage_form, within, chunk_form}
 use Rattle.mf_lines.specs.Lines.{has_name, content_in, content_length, starts_high}
@@ -92,7 +92,6 @@ Local : SoFar → Form → Type 0
 Local so (says.Chunk n) = (1 ≤ n) × (n ≤ 65536)
 Local so (says.File file) = NewFile so file
 Local so says.Phase = so.phases < 64
-Local so says.Client = so.clients < 1
 Local so (says.Command act) = so.commands < 1024
 Local so form = Unit {0}
 
@@ -253,11 +252,9 @@ local so word.Phase ws form e =
 local so word.Policy ws form e = policy_local so ws form e
 local so word.Tick ws form e = tick_local so ws form e
 local so word.Client ws form e =
-    let few = leb 1 so.clients in
-    let a = bound (refuse few kind.Unknown) _ form e in
-    let b = bound (no_words ws) (λ _. Ok says.Client) form a.next in
-    let is : says.Client ≡ form = let n = b.next in cc in
-    subst (Local so) is (leb-false 1 so.clients (not_refused few kind.Unknown a.value a.is))
+    let a = bound (no_words ws) _ form e in
+    let b = bound (within ((leb 8 so.clients, limit.Clients) ∷ [])) (λ _. Ok says.Client) form a.next in
+    let is : says.Client ≡ form = let n = b.next in cc in subst (Local so) is tt
 local so (word.Command v) ws form e =
     let a = bound (act_in so v ws) (λ act. Ok (says.Command act)) form e in
     let is : says.Command a.value ≡ form = let n = a.next in cc in
@@ -310,58 +307,10 @@ stands so line form e =
       | inr fails ↦ let at = sym (cond-false _ _ _ fails) ∙ e in absurd cc
     ]
 
--- ---- lists of items
-
--- the item is a phase of one client, if it is a phase
-unfoldable pub IsSingle : Item → Type 0
-IsSingle (item.Tick ticks) = Unit {0}
-IsSingle (item.Phase clients) = length clients ≡ 1
-
-unfoldable pub Singles : List Item → Type 0
-Singles [] = Unit {0}
-Singles (x ∷ xs) = IsSingle x × Singles xs
-
--- so are all but the last, which has no client yet
-Open : List Item → Type 0
-Open [] = ⊥
-Open (item.Tick ticks ∷ []) = ⊥
-Open (item.Phase clients ∷ []) = clients ≡ []
-Open (x ∷ y ∷ xs) = IsSingle x × Open (y ∷ xs)
-
 length-on_last : {X : Type 0} (f : X → X) (xs : List X) → length (on_last f xs) ≡ length xs
 length-on_last f [] = refl
 length-on_last f (x ∷ []) = refl
 length-on_last f (x ∷ y ∷ xs) = ap suc (length-on_last f (y ∷ xs))
-
-phase_added : (items : List Item) → Singles items → Open (items ++ item.Phase [] ∷ [])
-unfolding Open Singles
-phase_added [] h = refl
-phase_added (x ∷ []) h = (h.0, refl)
-phase_added (x ∷ y ∷ xs) h = (h.0, phase_added (y ∷ xs) h.1)
-
-tick_added : (ticks : ℕ) (items : List Item) → Singles items → Singles (items ++ item.Tick ticks ∷ [])
-unfolding Singles IsSingle
-tick_added ticks [] h = (tt, tt)
-tick_added ticks (x ∷ xs) h = (h.0, tick_added ticks xs h.1)
-
-client_added : (items : List Item) → Open items → Singles (on_last with_client items)
-unfolding Open Singles IsSingle
-client_added [] h = absurd h
-client_added (item.Tick ticks ∷ []) h = absurd h
-client_added (item.Phase clients ∷ []) h =
-    (ap (λ cs. length (cs ++ record { commands = [] } ∷ [])) h, tt)
-client_added (x ∷ y ∷ xs) h = (h.0, client_added (y ∷ xs) h.1)
-
-one_changed : (c : Command) (x : Item) → IsSingle x → IsSingle (with_command c x)
-unfolding IsSingle
-one_changed c (item.Tick ticks) h = tt
-one_changed c (item.Phase clients) h = length-on_last (client_with c) clients ∙ h
-
-command_added : (c : Command) (items : List Item) → Singles items → Singles (on_last (with_command c) items)
-unfolding Singles
-command_added c [] h = tt
-command_added c (x ∷ []) h = (one_changed c x h.0, tt)
-command_added c (x ∷ y ∷ xs) h = (h.0, command_added c (y ∷ xs) h.1)
 
 -- ---- how many commands there are
 
@@ -469,82 +418,58 @@ Chunked word.Morph s = s.files ≡ []
 Chunked word.Servers s = s.files ≡ []
 Chunked last s = (1 ≤ s.chunk) × (s.chunk ≤ 65536)
 
--- with so many clients since the last phase line
-Phased : LineWord → (clients : ℕ) → List Item → Type 0
-Phased word.Phase clients items = Open items
-Phased word.Client clients items = Singles items × (1 ≤ clients)
-Phased (word.Command verb) clients items = Singles items × (1 ≤ clients)
-Phased last clients items = Singles items
-
-record Kept (last : LineWord) (clients : ℕ) (s : Script) : Type 0 where
+record Kept (last : LineWord) (s : Script) : Type 0 where
   chunk : Chunked last s
   files : FilesFit s.chunk s.files
-  items : Phased last clients s.items
 
 After : SoFar → Form → Type 0
-After so form = Kept (first_word form) (clients_with so form) (with_form so.script (so.lines + 1) form)
+After so form = Kept (first_word form) (with_form so.script (so.lines + 1) form)
 
-in_client : (so : SoFar) (form : Form) → may_follow_command (first_word form) ≡ true → Local so form
-    → (1 ≤ so.script.chunk) × (so.script.chunk ≤ 65536) → FilesFit so.script.chunk so.script.files
-    → Singles so.script.items × (1 ≤ so.clients) → After so form
-unfolding Local Chunked Phased After
-in_client so says.Client e own chunk files items = absurd (omega (arith, own, items.1))
-in_client so says.Phase e own chunk files items =
-    record { chunk = chunk; files = files; items = phase_added so.script.items items.0 }
-in_client so (says.Tick ticks) e own chunk files items =
-    record { chunk = chunk; files = files; items = tick_added ticks so.script.items items.0 }
-in_client so (says.Command act) e own chunk files items =
-    record { chunk = chunk; files = files; items = (command_added _ so.script.items items.0, items.1) }
-in_client so says.End e own chunk files items = record { chunk = chunk; files = files; items = items.0 }
-in_client so (says.Dump file) e own chunk files items = record { chunk = chunk; files = files; items = items.0 }
-in_client so form e own chunk files items = absurd cc
+in_client : (so : SoFar) (form : Form) → may_follow_command (first_word form) ≡ true
+    → (1 ≤ so.script.chunk) × (so.script.chunk ≤ 65536) → FilesFit so.script.chunk so.script.files → After so form
+unfolding Chunked After
+in_client so says.Client e chunk files = record { chunk = chunk; files = files }
+in_client so says.Phase e chunk files = record { chunk = chunk; files = files }
+in_client so (says.Tick ticks) e chunk files = record { chunk = chunk; files = files }
+in_client so (says.Command act) e chunk files = record { chunk = chunk; files = files }
+in_client so says.End e chunk files = record { chunk = chunk; files = files }
+in_client so (says.Dump file) e chunk files = record { chunk = chunk; files = files }
+in_client so form e chunk files = absurd cc
+
+file_more : (so : SoFar) (f : FileLine) → NewFile so f → (1 ≤ so.script.chunk) × (so.script.chunk ≤ 65536)
+    → FilesFit so.script.chunk so.script.files → After so (says.File f)
+unfolding Chunked After
+file_more so f own chunk files = record {
+  chunk = chunk;
+  files = files_fit so.script.chunk so.script.files f files (own.fits chunk.0);
+}
 
 kept_more : (so : SoFar) (last : LineWord) (form : Form) → may_follow last (first_word form) ≡ true → Local so form
-    → Kept last so.clients so.script → After so form
-unfolding may_follow Local Chunked Phased After
-kept_more so word.Morph (says.Servers x) e own h = record { chunk = h.chunk; files = h.files; items = h.items }
+    → Kept last so.script → After so form
+unfolding may_follow Local Chunked After
+kept_more so word.Morph (says.Servers x) e own h = record { chunk = h.chunk; files = h.files }
 kept_more so word.Servers (says.Chunk x) e own h =
-    record { chunk = own; files = no_files_fit x so.script.files h.chunk; items = h.items }
-kept_more so word.Chunk (says.Points x) e own h = record { chunk = h.chunk; files = h.files; items = h.items }
-kept_more so word.Points (says.Stage x) e own h = record { chunk = h.chunk; files = h.files; items = h.items }
-kept_more so word.Stage (says.Stage x) e own h = record { chunk = h.chunk; files = h.files; items = h.items }
-kept_more so word.Stage (says.Policy x) e own h = record { chunk = h.chunk; files = h.files; items = h.items }
-kept_more so word.Stage (says.File f) e own h =
-    record {
-      chunk = h.chunk;
-      files = files_fit so.script.chunk so.script.files f h.files (own.fits h.chunk.0);
-      items = h.items;
-    }
-kept_more so word.Policy (says.File f) e own h =
-    record {
-      chunk = h.chunk;
-      files = files_fit so.script.chunk so.script.files f h.files (own.fits h.chunk.0);
-      items = h.items;
-    }
-kept_more so word.File (says.File f) e own h =
-    record {
-      chunk = h.chunk;
-      files = files_fit so.script.chunk so.script.files f h.files (own.fits h.chunk.0);
-      items = h.items;
-    }
-kept_more so word.File (says.Tick ticks) e own h =
-    record { chunk = h.chunk; files = h.files; items = tick_added ticks so.script.items h.items }
-kept_more so word.File says.Phase e own h =
-    record { chunk = h.chunk; files = h.files; items = phase_added so.script.items h.items }
-kept_more so word.File says.End e own h = record { chunk = h.chunk; files = h.files; items = h.items }
-kept_more so word.File (says.Dump file) e own h = record { chunk = h.chunk; files = h.files; items = h.items }
-kept_more so word.Tick (says.Tick ticks) e own h =
-    record { chunk = h.chunk; files = h.files; items = tick_added ticks so.script.items h.items }
-kept_more so word.Tick says.Phase e own h =
-    record { chunk = h.chunk; files = h.files; items = phase_added so.script.items h.items }
-kept_more so word.Tick says.End e own h = record { chunk = h.chunk; files = h.files; items = h.items }
-kept_more so word.Tick (says.Dump file) e own h = record { chunk = h.chunk; files = h.files; items = h.items }
-kept_more so word.Dump (says.Dump file) e own h = record { chunk = h.chunk; files = h.files; items = h.items }
-kept_more so word.Dump says.End e own h = record { chunk = h.chunk; files = h.files; items = h.items }
-kept_more so word.Phase says.Client e own h =
-    record { chunk = h.chunk; files = h.files; items = (client_added so.script.items h.items, omega arith) }
-kept_more so word.Client form e own h = in_client so form e own h.chunk h.files h.items
-kept_more so (word.Command verb) form e own h = in_client so form e own h.chunk h.files h.items
+    record { chunk = own; files = no_files_fit x so.script.files h.chunk }
+kept_more so word.Chunk (says.Points x) e own h = record { chunk = h.chunk; files = h.files }
+kept_more so word.Points (says.Stage x) e own h = record { chunk = h.chunk; files = h.files }
+kept_more so word.Stage (says.Stage x) e own h = record { chunk = h.chunk; files = h.files }
+kept_more so word.Stage (says.Policy x) e own h = record { chunk = h.chunk; files = h.files }
+kept_more so word.Stage (says.File f) e own h = file_more so f own h.chunk h.files
+kept_more so word.Policy (says.File f) e own h = file_more so f own h.chunk h.files
+kept_more so word.File (says.File f) e own h = file_more so f own h.chunk h.files
+kept_more so word.File (says.Tick ticks) e own h = record { chunk = h.chunk; files = h.files }
+kept_more so word.File says.Phase e own h = record { chunk = h.chunk; files = h.files }
+kept_more so word.File says.End e own h = record { chunk = h.chunk; files = h.files }
+kept_more so word.File (says.Dump file) e own h = record { chunk = h.chunk; files = h.files }
+kept_more so word.Tick (says.Tick ticks) e own h = record { chunk = h.chunk; files = h.files }
+kept_more so word.Tick says.Phase e own h = record { chunk = h.chunk; files = h.files }
+kept_more so word.Tick says.End e own h = record { chunk = h.chunk; files = h.files }
+kept_more so word.Tick (says.Dump file) e own h = record { chunk = h.chunk; files = h.files }
+kept_more so word.Dump (says.Dump file) e own h = record { chunk = h.chunk; files = h.files }
+kept_more so word.Dump says.End e own h = record { chunk = h.chunk; files = h.files }
+kept_more so word.Phase says.Client e own h = record { chunk = h.chunk; files = h.files }
+kept_more so word.Client form e own h = in_client so form e h.chunk h.files
+kept_more so (word.Command verb) form e own h = in_client so form e h.chunk h.files
 kept_more so last form e own h = absurd cc
 
 record Counts (so : SoFar) : Type 0 where
@@ -603,27 +528,26 @@ counts_more so form own h =
     }
 
 -- before the first line, and behind lines
-KeptAt : Option LineWord → (clients : ℕ) → Script → Type 0
-KeptAt None clients s = (s.files ≡ []) × (s.items ≡ [])
-KeptAt (Some last) clients s = Kept last clients s
+KeptAt : Option LineWord → Script → Type 0
+KeptAt None s = s.files ≡ []
+KeptAt (Some last) s = Kept last s
 
-kept_line : (so : SoFar) (form : Form) → Stands so form → KeptAt so.last so.clients so.script → After so form
-unfolding KeptAt Chunked Phased Singles After
+kept_line : (so : SoFar) (form : Form) → Stands so form → KeptAt so.last so.script → After so form
+unfolding KeptAt Chunked After
 kept_line so form is h =
     elim is.place [
       | inl first ↦
-          let start = subst (λ l. KeptAt l so.clients so.script) first.0 h in
+          let start = subst (λ l. KeptAt l so.script) first.0 h in
           subst (After so) (sym first.1) (record {
-            chunk = start.0;
-            files = no_files_fit so.script.chunk so.script.files start.0;
-            items = subst Singles (sym start.1) tt;
+            chunk = start;
+            files = no_files_fit so.script.chunk so.script.files start;
           })
-      | inr (last, was, follows) ↦ kept_more so last form follows is.alone (subst (λ l. KeptAt l so.clients so.script) was h)
+      | inr (last, was, follows) ↦ kept_more so last form follows is.alone (subst (λ l. KeptAt l so.script) was h)
     ]
 
 kept_lines : (so : SoFar) (lines : List (List ℕ)) (forms : List Form) → MakeForms so lines forms
-    → KeptAt so.last so.clients so.script → Counts so
-    → KeptAt (so_with so forms).last (so_with so forms).clients (so_with so forms).script × Counts (so_with so forms)
+    → KeptAt so.last so.script → Counts so
+    → KeptAt (so_with so forms).last (so_with so forms).script × Counts (so_with so forms)
 unfolding KeptAt After
 kept_lines so [] [] made h n = (h, n)
 kept_lines so [] (form ∷ forms) made h n = absurd made
@@ -638,15 +562,14 @@ pub record Limits (s : Script) : Type 0 where
   pub chunk : (1 ≤ s.chunk) × (s.chunk ≤ 65536)
   pub files : length s.files ≤ 64
   pub each : FilesFit s.chunk s.files
-  pub single : Singles s.items
   pub phases : length (phases_in s.items) ≤ 64
   pub commands : in_items s.items ≤ 1024
 
 pub limits : (text : List ℕ) (s : Script) → IsScript text s → Limits s
-unfolding KeptAt Chunked Phased so_of in_items
+unfolding KeptAt Chunked so_of in_items
 limits text s is =
     let so = so_of is.forms in
-    let all = kept_lines so_before (lines_of text) is.forms is.lines.lines (refl, refl)
+    let all = kept_lines so_before (lines_of text) is.forms is.lines.lines refl
     (record {
       files = omega arith;
       counted_phases = refl;
@@ -654,12 +577,11 @@ limits text s is =
       counted = omega arith;
       commands = omega arith;
     }) in
-    let ended = subst (λ l. KeptAt l so.clients so.script) is.lines.ended all.0 in
+    let ended = subst (λ l. KeptAt l so.script) is.lines.ended all.0 in
     subst Limits (sym is.says) (record {
       chunk = ended.chunk;
       files = all.1.files;
       each = ended.files;
-      single = ended.items;
       phases = omega (arith, all.1.counted_phases, all.1.phases);
       commands = omega (arith, all.1.counted, all.1.commands);
     })

@@ -29,7 +29,6 @@ use Rattle.mf_client.specs.Clients.{HasClient, IsFileOf, AreFiles, facts_in}
 use Rattle.mf_client.specs.Runs.{Runs}
 use Rattle.mf_crew.specs.Files.{HasPhase, book_of, RestsBy, AllRestBy, left_by}
 use Rattle.mf_crew.specs.Alone.{first_actors, RunsPhase}
-use Rattle.mf_crew.proofs.Limits.{limits, IsSingle, Singles}
 
 -- ---- lists
 
@@ -167,18 +166,6 @@ leaves s p now files new actors are facts rest = record {
 }
 
 -- ---- a phase of one client
-
--- each phase has one client
-pub one_client : (items : List Item) (k : ℕ) → Singles items → k < length (phases_in items)
-    → length (get_or (phases_in items) k []) ≡ 1
-unfolding Singles IsSingle
-one_client [] k h within = absurd (omega (arith, within))
-one_client (item.Tick ticks ∷ items) k h within = one_client items k h.1 within
-one_client (item.Phase clients ∷ items) zero h within = h.0
-one_client (item.Phase clients ∷ items) (suc k) h within = one_client items k h.1 (omega (arith, within))
-
-pub only_one : (text : List ℕ) (s : Script) (p : ℕ) → IsScript text s → HasPhase s p → length (clients_of s p) ≡ 1
-only_one text s p is has = one_client s.items (p - 1) (limits text s is).single (omega (arith, has.0, has.1))
 
 pub only_client : (s : Script) (p : ℕ) → HasPhase s p → length (clients_of s p) ≡ 1 → HasClient s p 1
 only_client s p has one = record { phases = has; clients = (omega arith, omega (arith, one)) }

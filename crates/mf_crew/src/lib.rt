@@ -3,6 +3,8 @@
 #![tactic(auto)]
 
 mod alone;
+mod jobs;
+mod live;
 mod phase;
 
 pub use phase::{PhaseRun, run_phase};

@@ -1,12 +1,14 @@
 //! A phase, run by its clients.
 
-ghost use Rattle.std.specs.Prelude.{All, IfOk};
+ghost use Rattle.std.specs.Prelude.{◌≡◌, ◌≤◌, length, All, IfOk};
 ghost use Rattle.mf_client.specs.declared.done.Done.{Done};
 ghost use Rattle.mf_client.specs.Runs.{IsSmall};
+ghost use Rattle.mf_script.specs.Phases.{clients_of};
 ghost use Rattle.mf_crew.specs.Files.{HasPhase, AllRestBy};
 ghost use Rattle.mf_crew.specs.Live.{IsPhase};
 
 use crate::alone::run_alone;
+use crate::live::run_live;
 use mf_client::{Done, Turnstile};
 use mf_plain::Plain;
 use mf_script::Script;
@@ -29,7 +31,7 @@ pub struct PhaseRun {
 ///
 /// The only error is want of memory outside of a command; nothing is handed back then.
 pub fn run_phase<R: Threads + Wait + Sync, T: Turnstile>(
-    _rt: &R,
+    rt: &R,
     alloc: Global,
     files: Vec<Plain>,
     script: &Script,
@@ -44,8 +46,17 @@ pub fn run_phase<R: Threads + Wait + Sync, T: Turnstile>(
     ensures rest { IfOk result (λ ran. AllRestBy script.now phase now ran.files.items) }
     ensures small { IfOk result (λ ran. All (λ (d : Done). IsSmall d.io) ran.done.items) }
 {
-    // A script's phases have one client each.
-    let _ = script.items();
-    let ran = run_alone(alloc, files, script, phase, now, turnstile)?;
-    Ok(ran)
+    if count_clients(script, phase) == 1 {
+        return Ok(run_alone(alloc, files, script, phase, now, turnstile)?);
+    }
+    Ok(run_live(rt, alloc, files, script, phase, now, turnstile)?)
+}
+
+// How many clients a phase has.
+pub(crate) fn count_clients(script: &Script, phase: u32) -> u32
+    requires { HasPhase script.now phase }
+    ensures count { result ≡ length (clients_of script.now phase) }
+    ensures few { (1 ≤ result) × (result ≤ 8) }
+{
+    script.clients(phase).len() as u32
 }

@@ -10,3 +10,4 @@ pub mod Json
 pub mod Writing
 pub mod Faults
 pub mod Verdicts
+pub mod Summary

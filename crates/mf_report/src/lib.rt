@@ -11,11 +11,13 @@ mod laws;
 mod lines;
 mod names;
 mod outcomes;
+mod summary;
 mod totals;
 mod verdicts;
 mod writing;
 
 pub use std::alloc::AllocError as Memory;
+pub use summary::summary_line;
 pub use verdicts::{accepted_line, refused_line, too_long_line, words_line};
 pub use writing::{ReportFault, report};
 

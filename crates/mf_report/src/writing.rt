@@ -43,9 +43,9 @@ fn push_total(out: &mut Vec<u8>, word: &[u8], io: Io) -> Result<(), AllocError>
     Ok(())
 }
 
-// The report's bytes.
+/// The report's bytes. Fails only for want of memory.
 #[tactic(auto, using(std::proofs::lemmas::List::append_assoc))]
-fn report_bytes(
+pub fn report_bytes(
     alloc: Global,
     script: &Script,
     commands: &[Done],

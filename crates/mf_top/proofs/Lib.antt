@@ -1,5 +1,6 @@
 mod Running
 mod Ending
+mod Summing
 mod Once
 mod Serving
 mod Reporting

@@ -1,7 +1,8 @@
 -- A script has one plain run, words and a text have one answer, and a call ends well where nothing fails.
 use Rattle.std.proofs.Common.{◌≡◌, ◌≢◌, ℕ, zero, suc, ◌⊎◌, inl, inr, Bool, true, false, List, [], ◌∷◌, ◌++◌, map}
 use Rattle.std.proofs.Common.{◌≤◌, length, Option, Some, All, refl, sym, ap, ◌∙◌, subst, arith}
-use Rattle.std.specs.Prelude.{IfSome}
+use Rattle.std.specs.Prelude.{IfSome, ◌<◌, ◌^◌}
+use Rattle.mf_io.specs.Faults.{HasRisen}
 use Rattle.std.specs.List.{list_any}
 use Rattle.std.proofs.lemmas.Bool.{or_parts}
 use Rattle.std.proofs.lemmas.List.Elements.{All-nil, All-cons, All-head, All-tail, All-map, All-from_get_or}
@@ -25,12 +26,13 @@ use Rattle.mf_crew.specs.Files.{left_by}
 use Rattle.mf_crew.specs.Alone.{first_actors, RunsPhase}
 use Rattle.mf_crew.specs.Live.{IsPhase}
 use Rattle.mf_top.specs.PlainRun.{new_file, RunsTo, IsPlainRun}
-use Rattle.mf_top.specs.Answers.{task_words, AsksNothing, IsRefused, IsRun, IsAnswer}
-use Rattle.mf_top.specs.Answers.{reported, lacked, accepted, refused, no_words}
+use Rattle.mf_top.specs.Answers.{task_words, seed_words, AsksNoSeed, AsksNothing, IsRefused, IsRun, IsAnswer}
+use Rattle.mf_top.specs.Answers.{reported, lacked, accepted, refused, summed, sum_lacked, no_words}
 use Rattle.mf_top.specs.Ends.{Call, Ends}
 use Rattle.mf_top.specs.Laws.{RefusesAlike, IsPlain, OneAnswer, NothingFailed, Completes}
 use Rattle.mf_top.specs.declared.Task.{Task}
 use Rattle.mf_top.specs.declared.Task.TheVariants.{Run, Check}
+use Rattle.mf_top.proofs.Summing.{no_task}
 use Rattle.mf_top.specs.declared.Status.{Status}
 use Rattle.mf_top.specs.declared.Status.TheVariants as ended
 
@@ -128,6 +130,12 @@ record Faulty (words : List (List ℕ)) (text : List ℕ) (m : ℕ) (x : List �
   status : m ≡ 1
   is : x ≡ refused_text fault
 
+record Summed (words : List (List ℕ)) (m : ℕ) : Type 0 where
+  seed : ℕ
+  small : seed < 2 ^ 64
+  asks : words ≡ seed_words seed
+  status : (m ≡ 0) ⊎ (m ≡ 5)
+
 record Wordless (words : List (List ℕ)) (m : ℕ) (x : List ℕ) : Type 0 where
   asks : AsksNothing words
   status : m ≡ 2
@@ -137,6 +145,7 @@ data Shown (words : List (List ℕ)) (text : List ℕ) (m : ℕ) (x : List ℕ) 
   by_run : Ran words text m x → Shown words text m x
   by_check : Tried words text m x → Shown words text m x
   by_fault : Faulty words text m x → Shown words text m x
+  by_seed : Summed words m → Shown words text m x
   by_words : Wordless words m x → Shown words text m x
 
 shown : (words : List (List ℕ)) (text : List ℕ) (m : ℕ) (x : List ℕ) → IsAnswer words text m x → Shown words text m x
@@ -166,6 +175,10 @@ shown words text m x (accepted s is) =
     by_check (record { script = s; asks = refl; read = is; status = refl; is = refl })
 shown words text m x (refused task fault is) =
     by_fault (record { task = task; fault = fault; asks = refl; refused = is; status = refl; is = refl })
+shown words text m x (summed n s done files small run fine) =
+    by_seed (record { seed = n; small = small; asks = refl; status = inl refl })
+shown words text m x (sum_lacked n s done files small run lacks) =
+    by_seed (record { seed = n; small = small; asks = refl; status = inr refl })
 shown words text m x (no_words none) = by_words (record { asks = none; status = refl; is = refl })
 
 -- the words of the tasks differ
@@ -203,7 +216,7 @@ fine : (m : ℕ) (b : Bool) → ((m ≡ 0) × (b ≡ false)) ⊎ (m ≡ 5) → m
 fine m b (inl h) other = h
 fine m b (inr e) other = absurd (other e)
 
-runs_alike : (words : List (List ℕ)) (text : List ℕ) (m n : ℕ) (x y : List ℕ)
+runs_alike : (words : List (List ℕ)) (text : List ℕ) (m n : ℕ) (x y : List ℕ) → AsksNoSeed words
     → ((s : Script) → IsScript text s → IsPlain s) → Ran words text m x → Ran words text n y → m ≢ 5 → n ≢ 5
     → SameAnswer m n x y
 unfolding SameAnswer
@@ -238,36 +251,41 @@ faults_alike words text m n x y a b =
       }),
     )
 
-alike : (words : List (List ℕ)) (text : List ℕ) (m n : ℕ) (x y : List ℕ)
+alike : (words : List (List ℕ)) (text : List ℕ) (m n : ℕ) (x y : List ℕ) → AsksNoSeed words
     → ((s : Script) → IsScript text s → IsPlain s) → Shown words text m x → Shown words text n y → m ≢ 5 → n ≢ 5
     → SameAnswer m n x y
 unfolding SameAnswer
-alike words text m n x y plain (by_run a) (by_run b) one other =
+alike words text m n x y none plain (by_run a) (by_run b) one other =
     runs_alike words text m n x y plain a b one other
-alike words text m n x y plain (by_run a) (by_check b) one other = absurd (apart a.json (sym a.asks ∙ b.asks))
-alike words text m n x y plain (by_run a) (by_fault b) one other =
+alike words text m n x y none plain (by_run a) (by_check b) one other = absurd (apart a.json (sym a.asks ∙ b.asks))
+alike words text m n x y none plain (by_run a) (by_fault b) one other =
     absurd (no_script text a.script b.fault a.run.script b.refused)
-alike words text m n x y plain (by_run a) (by_words b) one other = absurd (b.asks (Run a.json) a.asks)
-alike words text m n x y plain (by_check a) (by_run b) one other = absurd (apart b.json (sym b.asks ∙ a.asks))
-alike words text m n x y plain (by_check a) (by_check b) one other =
+alike words text m n x y none plain (by_run a) (by_words b) one other = absurd (b.asks.0 (Run a.json) a.asks)
+alike words text m n x y none plain (by_check a) (by_run b) one other = absurd (apart b.json (sym b.asks ∙ a.asks))
+alike words text m n x y none plain (by_check a) (by_check b) one other =
     let script : a.script ≡ b.script = scripts_are.script text a.script b.script a.read b.read in
     (a.status ∙ sym b.status, inl (a.is ∙ ap (λ (s : Script). accepted_text (main_of s).stages) script ∙ sym b.is))
-alike words text m n x y plain (by_check a) (by_fault b) one other = absurd (no_script text a.script b.fault a.read b.refused)
-alike words text m n x y plain (by_check a) (by_words b) one other = absurd (b.asks Check a.asks)
-alike words text m n x y plain (by_fault a) (by_run b) one other =
+alike words text m n x y none plain (by_check a) (by_fault b) one other = absurd (no_script text a.script b.fault a.read b.refused)
+alike words text m n x y none plain (by_check a) (by_words b) one other = absurd (b.asks.0 Check a.asks)
+alike words text m n x y none plain (by_fault a) (by_run b) one other =
     absurd (no_script text b.script a.fault b.run.script a.refused)
-alike words text m n x y plain (by_fault a) (by_check b) one other = absurd (no_script text b.script a.fault b.read a.refused)
-alike words text m n x y plain (by_fault a) (by_fault b) one other = faults_alike words text m n x y a b
-alike words text m n x y plain (by_fault a) (by_words b) one other = absurd (b.asks a.task a.asks)
-alike words text m n x y plain (by_words a) (by_run b) one other = absurd (a.asks (Run b.json) b.asks)
-alike words text m n x y plain (by_words a) (by_check b) one other = absurd (a.asks Check b.asks)
-alike words text m n x y plain (by_words a) (by_fault b) one other = absurd (a.asks b.task b.asks)
-alike words text m n x y plain (by_words a) (by_words b) one other = (a.status ∙ sym b.status, inl (a.is ∙ sym b.is))
+alike words text m n x y none plain (by_fault a) (by_check b) one other = absurd (no_script text b.script a.fault b.read a.refused)
+alike words text m n x y none plain (by_fault a) (by_fault b) one other = faults_alike words text m n x y a b
+alike words text m n x y none plain (by_fault a) (by_words b) one other = absurd (b.asks.0 a.task a.asks)
+alike words text m n x y none plain (by_words a) (by_run b) one other = absurd (a.asks.0 (Run b.json) b.asks)
+alike words text m n x y none plain (by_words a) (by_check b) one other = absurd (a.asks.0 Check b.asks)
+alike words text m n x y none plain (by_words a) (by_fault b) one other = absurd (a.asks.0 b.task b.asks)
+alike words text m n x y none plain (by_words a) (by_words b) one other = (a.status ∙ sym b.status, inl (a.is ∙ sym b.is))
+alike words text m n x y none plain (by_run a) (by_seed b) one other = absurd (none b.seed b.small b.asks)
+alike words text m n x y none plain (by_check a) (by_seed b) one other = absurd (none b.seed b.small b.asks)
+alike words text m n x y none plain (by_fault a) (by_seed b) one other = absurd (none b.seed b.small b.asks)
+alike words text m n x y none plain (by_words a) (by_seed b) one other = absurd (none b.seed b.small b.asks)
+alike words text m n x y none plain (by_seed a) b one other = absurd (none a.seed a.small a.asks)
 
 pub one_answer : OneAnswer
 unfolding SameAnswer
-one_answer words text m n x y plain a b one other =
-    alike words text m n x y plain (shown words text m x a) (shown words text n y b) one other
+one_answer words text m n x y none plain a b one other =
+    alike words text m n x y none plain (shown words text m x a) (shown words text n y b) one other
 
 -- ---- a call ends well where nothing fails
 
@@ -278,13 +296,15 @@ not_refused words text s x (by_run a) is =
     elim a.status [ inl h ↦ let told = h.0 in cc | inr e ↦ cc ]
 not_refused words text s x (by_check a) is = let told = a.status in cc
 not_refused words text s x (by_fault a) is = no_script text s a.fault is a.refused
+not_refused words text s x (by_seed a) is = elim a.status [ inl e ↦ cc | inr e ↦ cc ]
 not_refused words text s x (by_words a) is = let told = a.status in cc
 
 not_words : (task : Task) (words : List (List ℕ)) (text x : List ℕ) → words ≡ task_words task → Shown words text 2 x → ⊥
 not_words task words text x e (by_run a) = elim a.status [ inl h ↦ let told = h.0 in cc | inr e ↦ cc ]
 not_words task words text x e (by_check a) = let told = a.status in cc
 not_words task words text x e (by_fault a) = let told = a.status in cc
-not_words task words text x e (by_words a) = a.asks task e
+not_words task words text x e (by_seed a) = elim a.status [ inl h ↦ cc | inr h ↦ cc ]
+not_words task words text x e (by_words a) = a.asks.0 task e
 
 run_ends_well : (json : Bool) (c : Call) (status : Status) (text : List ℕ) (s : Script) → Ends c status
     → c.words ≡ task_words (Run json) → c.left ≡ Some text → IsScript text s → NothingFailed c
@@ -310,5 +330,33 @@ check_ends_well c ended.Words h asks held =
 check_ends_well c ended.SourceFault h asks held = absurd (held.reads h.1)
 check_ends_well c ended.SinkFault h asks held = absurd (held.writes h.writes.failed)
 
+-- an answer of status 1 or 2 to the words of a seed is none
+no_fault : (n : ℕ) (words : List (List ℕ)) (text x : List ℕ) → words ≡ seed_words n → Shown words text 1 x → ⊥
+no_fault n words text x e (by_run a) = elim a.status [ inl h ↦ let told = h.0 in cc | inr h ↦ cc ]
+no_fault n words text x e (by_check a) = let told = a.status in cc
+no_fault n words text x e (by_fault a) = no_task n a.task (sym e ∙ a.asks)
+no_fault n words text x e (by_seed a) = elim a.status [ inl h ↦ cc | inr h ↦ cc ]
+no_fault n words text x e (by_words a) = let told = a.status in cc
+
+no_refusal : (n : ℕ) (words : List (List ℕ)) (text x : List ℕ) → n < 2 ^ 64 → words ≡ seed_words n
+    → Shown words text 2 x → ⊥
+no_refusal n words text x small e (by_run a) = elim a.status [ inl h ↦ let told = h.0 in cc | inr h ↦ cc ]
+no_refusal n words text x small e (by_check a) = let told = a.status in cc
+no_refusal n words text x small e (by_fault a) = let told = a.status in cc
+no_refusal n words text x small e (by_seed a) = elim a.status [ inl h ↦ cc | inr h ↦ cc ]
+no_refusal n words text x small e (by_words a) = a.asks.1 n small e
+
+seed_ends_well : (n : ℕ) (c : Call) (status : Status) → n < 2 ^ 64 → Ends c status → c.words ≡ seed_words n
+    → (HasRisen c.output.faults c.output.faults_now → ⊥) → (status ≡ ended.Done) ⊎ (status ≡ ended.Memory)
+seed_ends_well n c ended.Done small h asks held = inl refl
+seed_ends_well n c ended.Memory small h asks held = inr refl
+seed_ends_well n c ended.Refused small h asks held =
+    absurd (no_fault n c.words h.text h.writes.bytes asks (shown c.words h.text 1 h.writes.bytes h.writes.answer))
+seed_ends_well n c ended.Words small h asks held =
+    absurd (no_refusal n c.words h.text h.writes.bytes small asks
+    (shown c.words h.text 2 h.writes.bytes h.writes.answer))
+seed_ends_well n c ended.SourceFault small h asks held = absurd (no_task n h.0.words.0 (sym asks ∙ h.0.words.1))
+seed_ends_well n c ended.SinkFault small h asks held = absurd (held h.writes.failed)
+
 pub ends_well : Completes
-ends_well = record { run = run_ends_well; check = check_ends_well }
+ends_well = record { run = run_ends_well; check = check_ends_well; seed = seed_ends_well }

@@ -3,7 +3,7 @@ use Rattle.std.specs.Prelude.{◌≡◌, ℕ, ◌<◌, ◌≤◌, ◌⊎◌, Lis
 use Rattle.std.specs.Io.KnownBytes.{Keeps, IsAtEnd}
 use Rattle.mf_io.specs.Faults.{HasRisen}
 use Rattle.mf_io.specs.ReadAll.{TookSome}
-use Rattle.mf_top.specs.Answers.{AsksTask, AsksNothing}
+use Rattle.mf_top.specs.Answers.{AsksTask, AsksNoTask}
 use Rattle.mf_top.specs.Writes.{Output, Writes, WritesNothing}
 use Rattle.mf_top.specs.declared.Status.{Status}
 use Rattle.mf_top.specs.declared.Status.TheVariants.{Done, Refused, Words, SourceFault, SinkFault, Memory}
@@ -29,7 +29,7 @@ IsInput c text = IfSome c.left (λ bytes. text ≡ bytes)
 -- What was taken of this text: nothing, where the words ask for no task; else all of it, where it isn't longer than a
 -- script may be; and of a longer one just one byte more than that.
 pub data IsTaken (c : Call) (text : List ℕ) : Type 0 where
-  unread : AsksNothing c.words → Keeps c.left c.left_now → IsTaken c text
+  unread : AsksNoTask c.words → Keeps c.left c.left_now → IsTaken c text
   whole : AsksTask c.words → length text ≤ 1048576 → IsAtEnd c.left_now → IsTaken c text
   too_long : AsksTask c.words → 1048576 < length text → TookSome c.left c.left_now (λ n. n ≡ 1048577) → IsTaken c text
 

@@ -1,5 +1,5 @@
 -- Laws of what the program answers, and of how a call ends.
-use Rattle.std.specs.Prelude.{◌≡◌, ◌≢◌, ℕ, ◌<◌, ◌⊎◌, Bool, List, ◌++◌, codes, length, slice_get, slice_index_or}
+use Rattle.std.specs.Prelude.{◌≡◌, ◌≢◌, ℕ, ◌<◌, ◌^◌, ◌⊎◌, Bool, List, ◌++◌, codes, length, slice_get, slice_index_or}
 use Rattle.std.specs.Prelude.{Some}
 use Rattle.sha2.specs.Sha256.{sha256}
 use Rattle.mf_text.specs.Hex.{hex_text}
@@ -35,7 +35,7 @@ use Rattle.mf_report.specs.Dumps.{chunk_text}
 use Rattle.mf_report.specs.Report.{took, conversions}
 use Rattle.mf_report.specs.Verdicts.{refused_text}
 use Rattle.mf_crew.specs.Files.{HasPhase, book_of}
-use Rattle.mf_top.specs.Answers.{task_words, IsRun, IsAnswer}
+use Rattle.mf_top.specs.Answers.{task_words, seed_words, AsksNoSeed, IsRun, IsAnswer}
 use Rattle.mf_top.specs.Ends.{Call, Ends}
 use Rattle.mf_top.specs.declared.Task.TheVariants.{Run, Check}
 use Rattle.mf_top.specs.declared.Status.{Status}
@@ -54,9 +54,10 @@ pub record RefusesAlike (x y : List ℕ) : Type 0 where
 abbrev pub IsPlain : Script → Type 0
 IsPlain s = (phase : ℕ) → HasPhase s phase → length (clients_of s phase) ≡ 1
 
--- Words and a text have one status and one answer, where no command lacks memory, and no phase has several clients.
+-- Words that ask for no seed, and a text, have one status and one answer, where no command lacks memory, and no phase
+-- has several clients.
 abbrev pub OneAnswer : Type 0
-OneAnswer = (words : List (List ℕ)) (text : List ℕ) (m n : ℕ) (x y : List ℕ)
+OneAnswer = (words : List (List ℕ)) (text : List ℕ) (m n : ℕ) (x y : List ℕ) → AsksNoSeed words
     → ((s : Script) → IsScript text s → IsPlain s) → IsAnswer words text m x → IsAnswer words text n y → m ≢ 5
     → n ≢ 5 → (m ≡ n) × ((x ≡ y) ⊎ RefusesAlike x y)
 
@@ -65,13 +66,16 @@ pub record NothingFailed (c : Call) : Type 0 where
   pub reads : HasRisen c.faults c.faults_now → ⊥
   pub writes : HasRisen c.output.faults c.output.faults_now → ⊥
 
--- Where nothing failed, a call that runs a script ends with 0 or 5, and one that tries a family with 0, 1 or 5.
+-- Where nothing failed, a call that runs a script ends with 0 or 5, and one that tries a family with 0, 1 or 5. A call
+-- with a seed ends with 0 or 5 where no write failed.
 pub record Completes : Type 0 where
   pub run : (json : Bool) (c : Call) (status : Status) (text : List ℕ) (s : Script) → Ends c status
       → c.words ≡ task_words (Run json) → c.left ≡ Some text → IsScript text s → NothingFailed c
       → (status ≡ ended.Done) ⊎ (status ≡ ended.Memory)
   pub check : (c : Call) (status : Status) → Ends c status → c.words ≡ task_words Check → NothingFailed c
       → (status ≡ ended.Done) ⊎ ((status ≡ ended.Refused) ⊎ (status ≡ ended.Memory))
+  pub seed : (n : ℕ) (c : Call) (status : Status) → n < 2 ^ 64 → Ends c status → c.words ≡ seed_words n
+      → (HasRisen c.output.faults c.output.faults_now → ⊥) → (status ≡ ended.Done) ⊎ (status ≡ ended.Memory)
 
 -- What a command that reads and names no server may answer: the bytes; that the file isn't there; want of memory; or
 -- more names of one stripe lost than the generation bears.

@@ -87,8 +87,8 @@ fn answer_run<R: Threads + Wait + Sync, K: Sink, T: Turnstile>(
     }
 }
 
-// The status of a run whose report was written whole.
-fn status_of(done: &[Done]) -> Status
+/// The status of a run whose report was written whole.
+pub fn status_of(done: &[Done]) -> Status
     ensures { result ≡ (if list_any lacks_memory done.now then Status.Memory else Status.Done) }
 {
     if lack_memory(done) {

@@ -3,14 +3,14 @@
 ghost use Rattle.mf_top.specs.Laws.{OneAnswer, Completes, ReadsAreServed};
 ghost use Rattle.mf_top.specs.Laws.{DigestsAreOfCells, ConversionsReadNoData};
 
-/// Words and a text have one status and one answer, where no command lacks memory and no phase has
+/// Words that ask for no seed, and a text, have one status and one answer, where no command lacks memory and no phase has
 /// several clients.
 pub fn one_answer()
     ensures { OneAnswer }
 {}
 
 /// Where no read and no write failed, a run of a script ends with 0 or 5, and a check with 0, 1 or
-/// 5.
+/// 5. Where no write failed, a run of a seed's script ends with 0 or 5.
 pub fn ends_well()
     ensures { Completes }
 {}

@@ -3,12 +3,13 @@
 
 ghost use Rattle.std.specs.Prelude.{◌≡◌, ◌∷◌, [], ℕ, map, MatchOption};
 ghost use Rattle.std.specs.String.{string_bytes};
-ghost use Rattle.mf_top.specs.Answers.{task_words, AsksNothing};
+ghost use Rattle.mf_top.specs.Answers.{task_words, AsksNoTask, AsksNoSeed};
 ghost use Rattle.mf_top.specs.Ends.{Ends, number_of};
 
 mod answers;
 mod laws;
 mod phases;
+mod seeds;
 mod writing;
 
 use answers::{answer_to_check, answer_to_run};
@@ -18,6 +19,7 @@ pub use laws::{
 use mf_client::Turnstile;
 use mf_io::{ReadAll, Sink, Source, read_all};
 use mf_report::{too_long_line, words_line};
+use seeds::{answer_seed, seed_of};
 use std::alloc::Global;
 use std::sync::Wait;
 use std::thread::Threads;
@@ -55,17 +57,18 @@ enum Status {
 /// Does what the words ask for, which stand after the program's name, and answers the program's
 /// status. With the one word `run` it reads a script from the source, runs its phases one after the
 /// other over files that aren't created yet, and writes the report to the sink; with `run --json` it
-/// writes it as JSON. With the one word `check` it does as `morph_check`. The turnstile is told of each client before each of its
-/// commands. The status is:
+/// writes it as JSON. With the one word `check` it does as `morph_check`. With `seed N`, N a decimal
+/// below 2^64, it reads nothing, runs the script that is drawn from N, and writes one line that sums
+/// up the run. The turnstile is told of each client before each of its commands. The status is:
 ///
-/// - 0: the script was read to its end, and its report or line was written whole; no command lacked
-///   memory;
+/// - 0: the script was read to its end, or drawn, and its report or line was written whole; no
+///   command lacked memory;
 /// - 1: the text is no script, and the line that says so was written;
 /// - 2: the words are others, nothing was read, and the line that says so was written;
 /// - 3: a read failed, and nothing was written;
 /// - 4: a write failed, and a front of the report or line was written;
-/// - 5: memory ran out, and nothing was written; or a command lacked memory, and the report that
-///   says so was written whole.
+/// - 5: memory ran out, and nothing was written; or a command lacked memory, and the report or line
+///   of the run was written whole.
 pub fn morph<R: Threads + Wait + Sync, S: Source, K: Sink, T: Turnstile>(
     rt: &R,
     alloc: Global,
@@ -135,6 +138,36 @@ fn end_of<R: Threads + Wait + Sync, S: Source, K: Sink, T: Turnstile>(
       };
     }) result }
 {
+    match seed_of(words) {
+        Some(n) => answer_seed(rt, alloc, n, sink, turnstile),
+        None => end_of_words(rt, alloc, words, source, sink, turnstile),
+    }
+}
+
+// The same where the words ask for no seed.
+fn end_of_words<R: Threads + Wait + Sync, S: Source, K: Sink, T: Turnstile>(
+    rt: &R,
+    alloc: Global,
+    words: &[String],
+    source: &mut S,
+    sink: &mut K,
+    turnstile: &T,
+) -> Status
+    requires { AsksNoSeed (map string_bytes words.now) }
+    ensures { Ends (record {
+      words = map string_bytes words.now;
+      left = S.left source.old;
+      left_now = S.left source.new;
+      faults = S.faults source.old;
+      faults_now = S.faults source.new;
+      output = record {
+        written = K.written sink.old;
+        written_now = K.written sink.new;
+        faults = K.faults sink.old;
+        faults_now = K.faults sink.new;
+      };
+    }) result }
+{
     match task_of(words) {
         Some(Task::Run { json }) => end_of_run(rt, alloc, json, source, sink, turnstile),
         Some(Task::Check) => end_of_check(alloc, source, sink),
@@ -144,7 +177,7 @@ fn end_of<R: Threads + Wait + Sync, S: Source, K: Sink, T: Turnstile>(
 
 // What the words ask for.
 fn task_of(words: &[String]) -> Option<Task>
-    ensures { MatchOption result (AsksNothing (map string_bytes words.now))
+    ensures { MatchOption result (AsksNoTask (map string_bytes words.now))
         (λ task. map string_bytes words.now ≡ task_words task) }
 {
     match words {
@@ -156,7 +189,7 @@ fn task_of(words: &[String]) -> Option<Task>
 
 // The task of this name.
 fn task_named(word: &str) -> Option<Task>
-    ensures { MatchOption result (AsksNothing (word.now ∷ []))
+    ensures { MatchOption result (AsksNoTask (word.now ∷ []))
         (λ task. word.now ∷ [] ≡ task_words task) }
 {
     if word == "run" {
@@ -170,7 +203,7 @@ fn task_named(word: &str) -> Option<Task>
 
 // The task of this name with this option.
 fn task_with(word: &str, option: &str) -> Option<Task>
-    ensures { MatchOption result (AsksNothing (word.now ∷ option.now ∷ []))
+    ensures { MatchOption result (AsksNoTask (word.now ∷ option.now ∷ []))
         (λ task. word.now ∷ option.now ∷ [] ≡ task_words task) }
 {
     if word == "run" && option == "--json" {

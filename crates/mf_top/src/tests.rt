@@ -1,5 +1,6 @@
 mod json;
 mod rows;
+mod seeds;
 
 use super::*;
 use mf_io::{MemorySink, MemorySource};

@@ -1,5 +1,23 @@
 //! Families of codes: a chain of stages over one list of points, at each stage of which every set
 //! of as many places as there are parities is decodable.
+//!
+//! A family has as many points as its first stage has parities, 1 to 4, none 0 and no two equal.
+//!
+//! `FamilyFault` is the number of points that isn't right, the first point that is 0, the first
+//! pair that is equal, or the first set of places that isn't decodable, of the least such stage,
+//! with a list of data that gives zero in every parity that is left.
+//!
+//! ```text
+//! let family = check(alloc, &shape, &[1, 2, 4, 8])?;
+//! // width 21 with four parities is a family;
+//! // with width 22 the places 0, 10, 21 and 24 can't be decoded
+//! ```
+//!
+//! *Proved.* `check` answers each fault exactly, a fault of points alone wherever there is one, the
+//! undecodable set the first of the least stage, with its kernel; a `Family` is decodable at every
+//! stage, said by codewords that agree outside the lost places.
+//!
+//! *Neither.* How long the check takes.
 #![tactic(auto)]
 
 ghost use Rattle.std.specs.Prelude.{◌≡◌, Err, IfOk, IfErr};

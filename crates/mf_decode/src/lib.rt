@@ -1,4 +1,26 @@
-//! Decoding: the data of a stripe from what is left of it, and the order in which what is left is asked for.
+//! Decoding: the data of a stripe from what is left of it, and the order in which what is left is
+//! asked for.
+//!
+//! A width is 1 to 64; at most four points; a piece t is below the stripe's number of pieces, and a
+//! parity p below the number of points. `plan` takes the erased places and as many parities,
+//! ascending, and has no plan exactly where the matrix has no inverse.
+//!
+//! `gather` asks a `Pieces` for each piece, ascending, and then for parities until as many were had
+//! as pieces are missing. `Short` says that all were asked and too few had. Else only want of
+//! memory fails.
+//!
+//! ```text
+//! match gather(alloc, &mut pieces, points, width, count, size) {
+//!     Gathered::All(chunks) => ..,    // the data of the stripe
+//!     Gathered::Short => ..,          // all parities were asked
+//! ```
+//!
+//! *Proved.* `plan` has none exactly where the matrix has no inverse, and then gives the kernel;
+//! `apply` gives the one data list that agrees with what was handed in; `gather` asks in the order
+//! of an asking, is Short exactly where the asking is short, and answers All with the data list
+//! with which the answers agree.
+//!
+//! *Neither.* Speed.
 #![tactic(auto)]
 
 mod applying;

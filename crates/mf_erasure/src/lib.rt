@@ -1,6 +1,19 @@
 //! The bridge between lost places and matrices: the matrix of an erasure, which a decoder inverts,
 //! and which places a stripe can lose, said by codewords that agree outside of them and by this
 //! matrix.
+//!
+//! A *place* t below the width is piece t, and place width + p is parity p. An *erasure* is a list
+//! of lost data places and a list of as many kept parities, both ascending. At most 4 points and 4
+//! lost places; none of its calls fails.
+//!
+//! ```text
+//! is_erasure(4, 2, &[0, 3], &[0, 1]) == true    // width 4, two parities
+//! is_erasure(4, 2, &[0, 3], &[0]) == false      // a parity for each lost place
+//! ```
+//!
+//! *Proved.* `erasure_matrix` has the entries of the erasure's matrix; `is_erasure` is true exactly
+//! for an erasure; laws: a set of places is decodable just where the matrix of its erasure sends
+//! only zero to zero; sets and erasures belong together.
 #![tactic(auto)]
 
 ghost use Rattle.std.specs.Prelude.{◌≡◌, ℕ, ◌<◌, ◌≤◌, length, slice_index};

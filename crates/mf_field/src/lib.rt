@@ -1,6 +1,22 @@
 //! The field of 256 elements, which are the bytes. Addition is exclusive or, and multiplication is
 //! that of polynomials over the field of two elements modulo `x^8 + x^4 + x^3 + x^2 + 1`, which is
-//! 0x11D. No call takes memory.
+//! 0x11D. No call takes memory, and none fails; `inv` has no answer for 0 alone.
+//!
+//! The arguments are bytes, 0 to 255; an exponent is a u32. `pow(a, 0)` is 1, also for a = 0.
+//! `laws` has the laws of the field and the merging identity, each as the contract of a function
+//! that does nothing.
+//!
+//! ```text
+//! mul(2, 128) == 29      // 2^8 is 0x11D without its highest bit
+//! inv(2) == Some(142)
+//! inv(0) == None
+//! ```
+//!
+//! *Proved.* `add`, `mul`, `pow` are exclusive or, *product* and *power*; `inv` is None exactly for
+//! 0 and else the inverse; `laws` has the field's laws, that 2 generates all 255 elements, the laws
+//! of powers, and the merging identity, each as the contract of a function.
+//!
+//! *Neither.* Speed.
 #![tactic(auto)]
 
 ghost use Rattle.std.specs.Prelude.{◌≡◌, ◌↔◌, bit_xor, IsNone, IfSome};

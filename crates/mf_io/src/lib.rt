@@ -1,4 +1,23 @@
 //! Bytes in and bytes out: what a program reads from and writes to, over memory or over std.
+//!
+//! A `Source` or `Sink` counts its faults: `Failed` comes only where the count rose. `read` answers
+//! 0 at the end of the input alone. `read_all` reads at most `limit` + 1 bytes, and answers TooLong
+//! where there were so many.
+//!
+//! After a `Failed` of `write_all` a front of the bytes was written. `read_all` alone takes memory.
+//!
+//! ```text
+//! let mut source = StdSource::new(stdin);
+//! let text = read_all(alloc, &mut source, 1_048_576)?;
+//! write_all(&mut sink, b"end\n")?;
+//! ```
+//!
+//! *Proved.* `read_all` and `write_all` give all bytes, with the causes of their refusals; the
+//! memory source and sink are exact.
+//!
+//! *Only tested.* The adapters over std, by one test.
+//!
+//! *Neither.* What a terminal, file or pipe holds.
 #![tactic(auto)]
 
 ghost use Rattle.std.specs.Prelude.{◌≡◌, ℕ, ◌<◌, List, Option, IfOk, length};

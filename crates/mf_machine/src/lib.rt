@@ -1,6 +1,17 @@
 //! The file machine: the state of one file, the steps of its actors, the rules that hold of it, and
 //! the law that every step keeps them. Nothing of it runs: these are the definitions that the table
 //! of atomic words and the accesses are proved against.
+//!
+//! A file has a *published number* (0: not created; g + 1: generation g is published; q + 1 with q
+//! stages: removed), the *right* to build, the *pins* of each generation, and each name's *state*:
+//! Unborn, Here, Taken, Lost with a line, or Dropped. An actor has its *Seen* (what it was shown),
+//! *Made* (what it changed) and *Met* (what it was answered).
+//!
+//! *Proved.* For every list of steps of any number of actors from a file at rest on: the ten rules
+//! hold; names of a pinned generation stay; the last actor's account gives the state, which is at
+//! rest; each answer is entered, fits the word that it met, and refused ones lead back to the
+//! opening or to some actor's deed; what was seen is handed on; no guard is too strong and no rule,
+//! down to its clauses, is empty.
 #![tactic(auto)]
 
 mod answer;

@@ -1,4 +1,22 @@
 //! Small matrices over the field of bytes, their inverses and their kernels.
+//!
+//! A matrix has at most 8 rows and 8 columns, numbered from 0; an entry is a byte. The *kernel
+//! list* of a matrix without an inverse is sent to zero by it, is zero behind the first dependent
+//! column, and its first entry that isn't zero is 1.
+//!
+//! `invert` answers a `Matrix`, or `NoInverse` with the kernel list or for want of memory. `kernel`
+//! answers None where only zero is sent to zero.
+//!
+//! ```text
+//! let m = Matrix::new(2, 2, entries);   // 1 1 / 1 2, row by row
+//! let inverse = invert(alloc, &m)?;
+//! ```
+//!
+//! *Proved.* `invert` answers a two-sided inverse, or the kernel list, exactly one of the two;
+//! `kernel` answers the kernel list, or that only zero is sent to zero; the kernel is the unique
+//! list that is zero after the first dependent column and begins with 1.
+//!
+//! *Neither.* Speed.
 #![tactic(auto)]
 
 ghost use Rattle.std.specs.Prelude.{◌≡◌, ℕ, ◌+◌, ◌*◌, ◌<◌, ◌≤◌, ⊤, length, slice_index};

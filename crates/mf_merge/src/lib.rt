@@ -1,4 +1,20 @@
-//! Merging: the parity of a wide stripe, from the parities of the narrow stripes that it holds.
+//! Merging: the parity of a wide stripe, from the parities of the narrow stripes that it holds. No
+//! chunk of data takes part.
+//!
+//! `width` is that of the narrow stripes, 1 to 64. One to 64 parities of one length and one point
+//! are handed in, in the order of their stripes, for as many stripes as the file has. Want of
+//! memory is the one error.
+//!
+//! ```text
+//! // the parities of point 2 of the stripes "ab" and "cd" are 0xa5 and 0xab
+//! let wide = merge(alloc, 2, 2, &narrow)?;
+//! // 0xa5 + 2^2 * 0xab = 0x33, the parity of "abcd"
+//! ```
+//!
+//! *Proved.* `merge` of parities of narrow stripes is the parity of the wide stripe, for as many
+//! narrow stripes as the file has; `merge_block` the same for a block of columns.
+//!
+//! *Neither.* Speed.
 #![tactic(auto)]
 
 ghost use Rattle.std.specs.Prelude.{◌≡◌, ◌+◌, ◌*◌, ◌<◌, ◌≤◌, ℕ, List, All, IfOk, length};

@@ -1,4 +1,24 @@
 //! The names of a file's chunks, their order, and the servers where they lie.
+//!
+//! A file has at most 1,048,576 bytes and 1,024 chunks of 1 to 65,536 bytes; its number is below
+//! 128. A *name* is `Data(i)`, `Copy(c, i)` or `Parity(width, j, p)`, for chunk i, copy c, stripe j
+//! and point p. Names are numbered from 0 in that order. The names of one stripe of one generation
+//! lie on different servers.
+//!
+//! `number` is None for a name that the file doesn't have. The lists of names, `Book::new` and
+//! `Losses::push` take memory, and want of it is their one error.
+//!
+//! ```text
+//! let book = Book::new(alloc, &shape, points, 1, 0, 4)?;    // chunk size, file, length
+//! book.server(Name::Data(3)) == 3
+//! book.holds(1, Name::Copy(0, 3)) == false
+//! ```
+//!
+//! *Proved.* `Book`: names are numbered one to one in their order; `server`, `holds`, `stripe_of`,
+//! `pieces` and the lists are the rules of placement; the names of one stripe of one generation lie
+//! on different servers. `Servers`: a set of servers made from a list has just those below 128, and
+//! gives them back ascending. `Losses`: a pushed line stands behind the others, and want of memory
+//! changes nothing.
 #![tactic(auto)]
 
 ghost use Rattle.std.specs.Prelude.{◌≡◌, ℕ, ◌+◌, ◌*◌, ◌^◌, ◌<◌, ◌≤◌, length, filter, IsTrue};

@@ -1,4 +1,27 @@
 //! Reads of a file, stripe by stripe, from whatever can be had of it.
+//!
+//! A read goes through the generation of the Hold slot, or through one that it pins itself. `from`
+//! is the number of chunks that were got.
+//!
+//! A `ReadOutcome` is the bytes; Absent or Removed; DataLost, which lists the lost names of a
+//! stripe with their lines, more than the generation bears; Unreachable, with the first name on a
+//! server that the command can't reach; or Memory.
+//!
+//! ```text
+//! match read(alloc, &mut access, &family) {
+//!     ReadOutcome::Bytes { g, bytes, from } => ..,
+//!     ReadOutcome::DataLost { g, stripe, lost } => ..,
+//! ```
+//!
+//! *Proved.* `read`, over any access: the calls that it made, with their answers, are those of its
+//! outcome (`Reads`). It goes through the Hold slot's generation, or through a Work pin of its own
+//! that it frees. Bytes are the file's, each chunk had once; data is lost only where more names of
+//! one stripe were found lost than the generation bears, and all are listed as found; a name is
+//! unreachable only where no more are lost. Laws: a short asking without a name that is away lacks
+//! more than is borne; a read of an actor alone has one outcome and leaves one actor, want of
+//! memory aside.
+//!
+//! *Neither.* No program calls it yet; speed.
 #![tactic(auto)]
 
 mod asker;

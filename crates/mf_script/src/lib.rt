@@ -1,4 +1,28 @@
 //! Scripts, read from their texts and printed again.
+//!
+//! A text has at most 1,048,576 bytes. Phases, clients and lines are numbered from 1, files from 0.
+//!
+//! `ScriptFault` has the first line with a fault and its kind; a fault of the shape or family is
+//! told at the first `stage` line; line 0 is that of a text that is too long. Else only want of
+//! memory fails.
+//!
+//! ```text
+//! let script = read_script(alloc, text)?;
+//! let losses = script.losses(alloc, 1)?;      // the lose lines up to the end of phase 1
+//! let again = print_script(alloc, &script)?;
+//! ```
+//!
+//! *Proved.* `read_script`: a script exactly where no line of the text has a fault and its shape
+//! and family are accepted, with what its lines say; else, a text that is too long before all else,
+//! the fault of the first line that has one, by the order of the kinds, and then that of the shape
+//! or family; a text that is refused so is no script. `print_script`: a text that is this script
+//! again; every text that is this script has its lines, but for the order of servers behind
+//! `without`, so none is shorter. `losses`: the lose lines up to the end of a phase. `one_answer`,
+//! a law: a text is one script or has one fault (the kernel list of a set of places aside), and
+//! never both. `content_bytes`: the bytes of a file's line. A `Script` keeps that it is some text's
+//! script: it has one family, named `main`, to which each file belongs.
+//!
+//! *Neither.* How long reading takes.
 #![tactic(auto)]
 
 mod contents;

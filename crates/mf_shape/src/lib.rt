@@ -1,4 +1,20 @@
 //! The chain of stages that the files of a family pass through, and the rules that it keeps.
+//!
+//! A chain has 1 to 4 stages, from a file's youth (stage 0) on. A stage has a width of 1 to 64, 1
+//! to 4 parities and at most 2 further copies. Each width is a multiple of the one before, and
+//! neither parities nor copies grow. There are at most 128 servers, and as many as the greatest
+//! width and the first stage's parities need.
+//!
+//! `ShapeFault` names the first rule that is broken, kind by kind and then for the least stage.
+//!
+//! ```text
+//! let shape = Shape::new(alloc, &stages, 6)?;    // stages 2 2 1 and 4 2 0
+//! shape.tolerance(0) == 3                        // lost names of one stripe
+//! shape.factor(0) == 2
+//! ```
+//!
+//! *Proved.* `Shape::new` answers the first fault, exactly, and else a shape that keeps the chain's
+//! rules; `tolerance`, `factor`.
 #![tactic(auto)]
 
 ghost use Rattle.std.specs.Prelude.{◌≡◌, ◌≢◌, ◌+◌, ◌*◌, ◌/◌, ◌<◌, ◌≤◌, length, IfOk, IfErr};

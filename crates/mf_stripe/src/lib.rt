@@ -1,4 +1,21 @@
-//! Encoding: the parities of a stripe, from its chunks.
+//! Encoding: the parities of a stripe, from its chunks; and a file cut into chunks and joined
+//! again.
+//!
+//! A width is 1 to 64, a chunk 1 to 65,536 bytes, and at most four points have a parity each. A
+//! short last stripe has fewer pieces than its width, and what is missing counts as zero bytes.
+//! Want of memory is the one error.
+//!
+//! ```text
+//! let chunks = cut(alloc, b"abcd", 1)?;
+//! let parities = encode(alloc, &[1, 2], 4, 1, &chunks)?;
+//! // the bytes 0x04 and 0x33
+//! ```
+//!
+//! *Proved.* `encode` gives the parities of a stripe, short last stripes included; `encode_block`
+//! the same for a block of columns; `cut` gives a file's chunks, `stripe_pieces` the chunks of a
+//! stripe, and `join` gives the file back, stripe by stripe.
+//!
+//! *Neither.* Speed.
 #![tactic(auto)]
 
 ghost use Rattle.std.specs.Prelude.{◌≡◌, ◌+◌, ◌^◌, ◌<◌, ◌≤◌, ℕ, List, All, IfOk, length, map};

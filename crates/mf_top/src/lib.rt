@@ -1,4 +1,26 @@
 //! The top call: what the program reads, answers and ends with.
+//!
+//! The words are one of the program's lists, compared word by word. A status is 0 (done), 1 (the
+//! text is refused), 2 (the words are), 3 (a read failed), 4 (a write failed) or 5 (want of
+//! memory). With 3 nothing is written, and with 4 a front of the answer is.
+//!
+//! ```text
+//! let status = morph(rt, alloc, &words, &mut source, &mut sink, &Free);
+//! ```
+//!
+//! *Proved.* `morph`, with the words `run` and `check`, and `morph_check`: status and written bytes
+//! in each case, with the cause of every status but want of memory, and what is left of the source.
+//! With `run` the report is that of the script's plain run: phase after phase from its files, none
+//! of them created, over their only actors, each outcome licensed by its calls. Laws: words and a
+//! text have one status and one answer where no command lacks memory (the kernel list of an
+//! undecodable set aside); where no read and no write failed, a run of a script ends with 0 or 5,
+//! and a check with 0, 1 or 5; a read that names no server answers the bytes, or that the file
+//! isn't there, or want of memory, or more names of one stripe lost than its generation bears.
+//!
+//! *Only tested.* That a run with ample memory ends well, by the tests.
+//!
+//! *Neither.* That the store is used: a body that works the same report out by other means meets
+//! the contract.
 #![tactic(auto)]
 
 ghost use Rattle.std.specs.Prelude.{◌≡◌, ◌∷◌, [], ℕ, map, MatchOption};

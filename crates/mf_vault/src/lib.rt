@@ -1,4 +1,23 @@
 //! One actor's hold on one file: what every access does and tells, for an actor alone and for many.
+//!
+//! `Access` has the calls that wait for nobody, and `Fetch` beside them `get` and `lose`, which may
+//! wait for another actor's get. A generation is below the number of stages, and a published number
+//! is 1 above its generation. `count_io` counts the entries of a ledger: reads of data, copies and
+//! parities, misses, writes, probes, drops.
+//!
+//! Only `reserve` and `get` can answer want of memory. Each call is one row of the file machine,
+//! and appends its one entry to the ledger.
+//!
+//! ```text
+//! access.reserve(1)?;
+//! if let Pinned::At(g) = access.pin(Slot::Work) {
+//!     let state = access.probe(Name::Data(0));    // Here, Lost(line), Away(server)
+//! ```
+//!
+//! *Proved.* The traits `Access` and `Fetch`: each call leads from one actor to the next by its row
+//! of the file machine, appends its entry and leaves all else, with what is promised of its answer;
+//! `count_io` counts each entry by its kind. Laws, over any access: what is seen only grows; an
+//! actor alone has one answer to a call, want of memory aside.
 #![tactic(auto)]
 
 mod access;

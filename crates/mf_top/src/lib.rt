@@ -1,4 +1,28 @@
 //! The top call: what the program reads, answers and ends with.
+//!
+//! The words are one of the program's lists, compared word by word. A status is 0 (done), 1 (the
+//! text is refused), 2 (the words are), 3 (a read failed), 4 (a write failed) or 5 (want of
+//! memory). With 3 nothing is written, and with 4 a front of the answer is.
+//!
+//! ```text
+//! let status = morph(rt, alloc, &words, &mut source, &mut sink, &Free);
+//! ```
+//!
+//! *Proved.* `morph`, with the words `run`, `run --json`, `check` and `seed N`, and `morph_check`:
+//! status and written bytes in each case, with the cause of every status but want of memory, and
+//! what is left of the source. With `run` the report is that of the script's run: phase after phase
+//! from its files, none of them created, to files at rest, which are the script's. Laws: words and
+//! a text have one status and one answer where no command lacks memory and no phase has several
+//! clients (the kernel list of an undecodable set aside); where no read and no write failed, a run
+//! of a script ends with 0 or 5, a check with 0, 1 or 5, and a seed with 0 or 5; a read that names
+//! no server answers the bytes, or that the file isn't there, or want of memory, or more names of
+//! one stripe lost than its generation bears; in each report a chunk that is here has the digest of
+//! its cell; and the conversions together read no data and no copy.
+//!
+//! *Only tested.* That a run with ample memory ends well; that clients run beside each other.
+//!
+//! *Neither.* That the store is used: a body that works a licensed report out by other means meets
+//! the contract.
 #![tactic(auto)]
 
 ghost use Rattle.std.specs.Prelude.{◌≡◌, ◌∷◌, [], ℕ, map, MatchOption};
@@ -69,6 +93,13 @@ enum Status {
 /// - 4: a write failed, and a front of the report or line was written;
 /// - 5: memory ran out, and nothing was written; or a command lacked memory, and the report or line
 ///   of the run was written whole.
+///
+/// So this holds: for every accepted script, however clients' steps fall, each printed chunk digest
+/// is that of the plain encoding of its file's bytes, although no conversion's ledger holds a data
+/// read; every read gives the bytes written at creation, through one published generation whose
+/// chunks stay until unpinned, or names more lost chunks of one stripe than that generation
+/// tolerates, or an unreachable server of its command, or want of memory. `README.md` says phrase
+/// by phrase which part of the clause says it.
 pub fn morph<R: Threads + Wait + Sync, S: Source, K: Sink, T: Turnstile>(
     rt: &R,
     alloc: Global,

@@ -153,7 +153,11 @@ fn words_of(alloc: Global, asked: &str) -> Result<Vec<String>, Fail> {
 }
 
 /// What a call with these words, this text and these failures answers and writes.
-fn try_case(rt: &(impl Abort + Threads + Wait + Sync), alloc: Global, case: Case) -> Result<(), Fail> {
+fn try_case(
+    rt: &(impl Abort + Threads + Wait + Sync),
+    alloc: Global,
+    case: Case,
+) -> Result<(), Fail> {
     let Case(asked, text, read, write, status, written) = case;
     let words = words_of(alloc, asked)?;
     let bytes = Vec::from_slice(alloc, text.as_bytes())?;

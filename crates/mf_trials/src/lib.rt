@@ -1,6 +1,9 @@
-//! Trials across crates: what the calls of the codes answer, beside plain loops over carry-less
-//! products, and a file that its only actor creates, reads, converts, repairs and reclaims. There
-//! are only tests.
+//! Tests across crates, and no code: the codes beside plain sums, at the limits too, and the life
+//! of a file over its only actor.
+//!
+//! *Only tested.* Kernels, encodings, merges, gatherings, families, cut files and a book, at the
+//! limits too, beside plain loops; a file that its only actor creates, reads, converts, repairs and
+//! reclaims, with its counts; two actors at one file, of whom one has the right and a pin.
 #![tactic(auto)]
 
 #[cfg(test)]

@@ -285,6 +285,7 @@ behind_is names (act.Convert file away stop) all = (file_name_is names file all,
 behind_is names (act.Reclaim file) all = (file_name_is names file all, tt)
 behind_is names (act.Remove file) all = (file_name_is names file all, tt)
 behind_is names (act.Lose server) all = (number server, tt)
+behind_is names act.Sweep all = tt
 
 act_is : (names : List (List ℕ)) (a : Act) → All IsUtf8 names → IsUtf8 (act_text names a)
 unfolding line_text

@@ -1,17 +1,19 @@
 -- The answers to a seed.
 use Rattle.std.proofs.Common.{◌≡◌, ◌≢◌, ℕ, ◌<◌, ◌^◌, inl, inr, List, [], ◌∷◌, Bool, true, false, Option, Some, None}
-use Rattle.std.proofs.Common.{cond, if◌then◌else◌, sym, ap, ◌∙◌, subst, refl}
+use Rattle.std.proofs.Common.{if◌then◌else◌, sym, ◌∙◌, subst}
 use Rattle.std.specs.Prelude.{codes, MatchOption, IfSome, IfNone}
 use Rattle.std.specs.List.{list_any}
 use Rattle.std.proofs.lemmas.Bool.{cases_Bool, cond-true, cond-false}
 use Rattle.mf_text.specs.Decimal.{decimal_text}
 use Rattle.mf_lines.specs.Meaning.{Script}
+use Rattle.mf_script.specs.Scripts.{IsScript}
 use Rattle.mf_script.specs.Seeds.{seed_text}
 use Rattle.mf_plain.specs.Resting.{Resting}
 use Rattle.mf_client.specs.declared.done.Done.{Done}
 use Rattle.mf_client.specs.Lacks.{lacks_memory}
 use Rattle.mf_report.specs.Report.{report_text}
 use Rattle.mf_report.specs.Summary.{summary_text}
+use Rattle.mf_top.specs.PlainRun.{AreOfLines, IsPlainRun}
 use Rattle.mf_top.specs.Answers.{task_words, seed_words, AsksNoSeed, IsRun, IsAnswer, summed, sum_lacked}
 use Rattle.mf_top.specs.Writes.{Output, Writes}
 use Rattle.mf_top.specs.declared.Task.{Task}
@@ -37,26 +39,31 @@ seed_is word number (Some n) first some none = λ i. first i ∷ some i ∷ []
 seed_is word number None first some none =
     λ n small e. none n small (second word number (codes "seed") (decimal_text n) e)
 
+-- what is known of a run, where its commands and files are borrowed
+pub run_of : (n : ℕ) (s : Script) (done mine : List Done) (files theirs : List Resting) → IsScript (seed_text n) s
+    → IsPlainRun s done files → AreOfLines s files → mine ≡ done → theirs ≡ files → IsRun (seed_text n) s mine theirs
+run_of n s done mine files theirs is run left first rests =
+    let whole : IsRun (seed_text n) s done files = record { script = is; run = run; left = left } in
+    subst (λ fs. IsRun (seed_text n) s mine fs) (sym rests)
+    (subst (λ ds. IsRun (seed_text n) s ds files) (sym first) whole)
+
 -- the line that sums up a run was written whole, or a front of it
-pub summed_up : (n : ℕ) (o : Output) (text : List ℕ) (s : Script) (done mine yours : List Done)
-    (files theirs : List Resting) (line : List ℕ) (whole result : Status) → n < 2 ^ 64 → IsRun (seed_text n) s done files
-    → mine ≡ done → theirs ≡ files → yours ≡ done → line ≡ summary_text n mine (report_text s mine theirs)
-    → whole ≡ (if list_any lacks_memory yours then ended.Memory else ended.Done) → Written o whole result line
+pub summed_up : (n : ℕ) (o : Output) (text : List ℕ) (s : Script) (done : List Done) (files : List Resting)
+    (line borrowed : List ℕ) (whole result : Status) → n < 2 ^ 64 → IsRun (seed_text n) s done files → borrowed ≡ line
+    → line ≡ summary_text n done (report_text s done files)
+    → whole ≡ (if list_any lacks_memory done then ended.Memory else ended.Done) → Written o whole result borrowed
     → Writes o (seed_words n) text result
-summed_up n o text s done mine yours files theirs line whole result small run first rests second told is wrote =
-    let line_is : line ≡ summary_text n done (report_text s done files) =
-    told ∙ (λ i. summary_text n (first i) (report_text s (first i) (rests i))) in
+summed_up n o text s done files line borrowed whole result small run same told is wrote =
+    let line_is : borrowed ≡ summary_text n done (report_text s done files) = same ∙ told in
     elim (cases_Bool (list_any lacks_memory done)) [
       | inl lacks ↦
-          let at : whole ≡ ended.Memory =
-          is ∙ ap (λ d. cond (list_any lacks_memory d) ended.Memory ended.Done) second ∙ cond-true _ _ _ lacks in
-          written o (seed_words n) text line ended.Memory result 5
+          let at : whole ≡ ended.Memory = is ∙ cond-true _ _ _ lacks in
+          written o (seed_words n) text borrowed ended.Memory result 5
           (subst (IsAnswer (seed_words n) text 5) (sym line_is) (sum_lacked n s done files small run lacks))
-          (λ w. inr w) (subst (λ u. Written o u result line) at wrote)
+          (λ w. inr w) (subst (λ u. Written o u result borrowed) at wrote)
       | inr fine ↦
-          let at : whole ≡ ended.Done =
-          is ∙ ap (λ d. cond (list_any lacks_memory d) ended.Memory ended.Done) second ∙ cond-false _ _ _ fine in
-          written o (seed_words n) text line ended.Done result 0
+          let at : whole ≡ ended.Done = is ∙ cond-false _ _ _ fine in
+          written o (seed_words n) text borrowed ended.Done result 0
           (subst (IsAnswer (seed_words n) text 0) (sym line_is) (summed n s done files small run fine))
-          (λ w. w) (subst (λ u. Written o u result line) at wrote)
+          (λ w. w) (subst (λ u. Written o u result borrowed) at wrote)
     ]

@@ -1,18 +1,22 @@
 //! What the program answers to a seed.
 
-ghost use Rattle.std.specs.Prelude.{◌≡◌, ◌∷◌, [], List, ℕ, map, MatchOption};
+ghost use Rattle.std.specs.Prelude.{◌≡◌, ◌≤◌, ◌∷◌, [], List, ℕ, length, map, MatchOption};
+ghost use Rattle.std.specs.List.{All};
 ghost use Rattle.std.specs.String.{string_bytes};
 ghost use Rattle.mf_script.specs.Scripts.{IsScript};
 ghost use Rattle.mf_script.specs.Seeds.{seed_text};
-ghost use Rattle.mf_top.specs.Answers.{seed_words, AsksNoSeed};
+ghost use Rattle.mf_client.specs.declared.done.Done.{Done};
+ghost use Rattle.mf_client.specs.Runs.{IsSmall};
+ghost use Rattle.mf_top.specs.Answers.{seed_words, AsksNoSeed, IsRun};
 ghost use Rattle.mf_top.specs.Writes.{Writes};
 
 use crate::Status;
 use crate::answers::status_of;
 use crate::phases::run;
 use crate::writing::write_answer;
-use mf_client::Turnstile;
+use mf_client::{Done, Turnstile};
 use mf_io::Sink;
+use mf_plain::Plain;
 use mf_report::summary_line;
 use mf_script::{Script, from_seed};
 use mf_text::decimal;
@@ -82,11 +86,33 @@ fn answer_run_of<R: Threads + Wait + Sync, K: Sink, T: Turnstile>(
       faults_now = K.faults sink.new;
     }) (seed_words n) text result }
 {
-    let Ok(ran) = run(rt, alloc, script, turnstile) else {
-        return Status::Memory;
-    };
-    match summary_line(alloc, n, script, &ran.done, &ran.files) {
-        Ok(line) => write_answer(sink, &line, status_of(&ran.done)),
+    match run(rt, alloc, script, turnstile) {
+        Ok(ran) => write_sum(alloc, n, script, &ran.done, &ran.files, sink),
+        Err(_) => Status::Memory,
+    }
+}
+
+// Writes the line that sums up a run of the script of this seed.
+fn write_sum<K: Sink>(
+    alloc: Global,
+    n: u64,
+    script: &Script,
+    done: &[Done],
+    files: &[Plain],
+    sink: &mut K,
+) -> Status
+    requires few { length done.now ≤ 4096 }
+    requires small { All (λ (d : Done). IsSmall d.io) done.now }
+    ensures { (text : List ℕ) → IsRun (seed_text n) script.now done.now files.now
+        → Writes (record {
+          written = K.written sink.old;
+          written_now = K.written sink.new;
+          faults = K.faults sink.old;
+          faults_now = K.faults sink.new;
+        }) (seed_words n) text result }
+{
+    match summary_line(alloc, n, script, done, files) {
+        Ok(line) => write_answer(sink, &line, status_of(done)),
         Err(_) => Status::Memory,
     }
 }

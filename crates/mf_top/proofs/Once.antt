@@ -130,7 +130,7 @@ record Faulty (words : List (List ℕ)) (text : List ℕ) (m : ℕ) (x : List �
   status : m ≡ 1
   is : x ≡ refused_text fault
 
-record Summed (words : List (List ℕ)) (m : ℕ) : Type 0 where
+record Seeded (words : List (List ℕ)) (m : ℕ) : Type 0 where
   seed : ℕ
   small : seed < 2 ^ 64
   asks : words ≡ seed_words seed
@@ -145,7 +145,7 @@ data Shown (words : List (List ℕ)) (text : List ℕ) (m : ℕ) (x : List ℕ) 
   by_run : Ran words text m x → Shown words text m x
   by_check : Tried words text m x → Shown words text m x
   by_fault : Faulty words text m x → Shown words text m x
-  by_seed : Summed words m → Shown words text m x
+  by_seed : Seeded words m → Shown words text m x
   by_words : Wordless words m x → Shown words text m x
 
 shown : (words : List (List ℕ)) (text : List ℕ) (m : ℕ) (x : List ℕ) → IsAnswer words text m x → Shown words text m x

@@ -1,10 +1,7 @@
 -- The answers to a seed.
-use Rattle.std.proofs.Common.{◌≡◌, ◌≢◌, ℕ, ◌<◌, ◌^◌, inl, inr, List, [], ◌∷◌, Bool, true, false, Option, Some, None}
-use Rattle.std.proofs.Common.{if◌then◌else◌, sym, ◌∙◌, subst}
-use Rattle.std.specs.Prelude.{codes, MatchOption, IfSome, IfNone}
+use Rattle.std.proofs.Common.{◌≡◌, ℕ, ◌<◌, ◌^◌, inl, inr, List, true, false, if◌then◌else◌, sym, ◌∙◌, subst}
 use Rattle.std.specs.List.{list_any}
 use Rattle.std.proofs.lemmas.Bool.{cases_Bool, cond-true, cond-false}
-use Rattle.mf_text.specs.Decimal.{decimal_text}
 use Rattle.mf_lines.specs.Meaning.{Script}
 use Rattle.mf_script.specs.Scripts.{IsScript}
 use Rattle.mf_script.specs.Seeds.{seed_text}
@@ -14,7 +11,7 @@ use Rattle.mf_client.specs.Lacks.{lacks_memory}
 use Rattle.mf_report.specs.Report.{report_text}
 use Rattle.mf_report.specs.Summary.{summary_text}
 use Rattle.mf_top.specs.PlainRun.{AreOfLines, IsPlainRun}
-use Rattle.mf_top.specs.Answers.{task_words, seed_words, AsksNoSeed, IsRun, IsAnswer, summed, sum_lacked}
+use Rattle.mf_top.specs.Answers.{task_words, seed_words, IsRun, IsAnswer, summed, sum_lacked}
 use Rattle.mf_top.specs.Writes.{Output, Writes}
 use Rattle.mf_top.specs.declared.Task.{Task}
 use Rattle.mf_top.specs.declared.Task.TheVariants.{Run, Check}
@@ -27,17 +24,6 @@ pub no_task : (n : ℕ) (task : Task) → seed_words n ≡ task_words task → �
 no_task n (Run true) e = cc
 no_task n (Run false) e = cc
 no_task n Check e = cc
-
-second : (a b c d : List ℕ) → a ∷ b ∷ [] ≡ c ∷ d ∷ [] → b ≡ d
-second a b c d e = cc
-
--- the seed of two words, of which the first is right
-pub seed_is : (word number : List ℕ) (r : Option ℕ) → word ≡ codes "seed" → IfSome r (λ n. number ≡ decimal_text n)
-    → IfNone r ((n : ℕ) → n < 2 ^ 64 → number ≢ decimal_text n)
-    → MatchOption r (AsksNoSeed (word ∷ number ∷ [])) (λ n. word ∷ number ∷ [] ≡ seed_words n)
-seed_is word number (Some n) first some none = λ i. first i ∷ some i ∷ []
-seed_is word number None first some none =
-    λ n small e. none n small (second word number (codes "seed") (decimal_text n) e)
 
 -- what is known of a run, where its commands and files are borrowed
 pub run_of : (n : ℕ) (s : Script) (done mine : List Done) (files theirs : List Resting) → IsScript (seed_text n) s

@@ -1,7 +1,7 @@
-use Rattle.std.proofs.Common.{map, refl, subst, sym}
+use Rattle.std.proofs.Common.{ℕ, List, map, refl, subst, sym}
 use Rattle.std.specs.String.{string_bytes}
 use Rattle.std.proofs.KnownBytes.{Keeps-refl}
-use Rattle.mf_top.specs.Answers.{seed_words, AsksNoTask}
+use Rattle.mf_top.specs.Answers.{seed_words}
 use Rattle.mf_top.specs.Ends.{Call, Ends, unread}
 use Rattle.mf_top.proofs.Ending.{answered, some_input}
 use Rattle.mf_top.proofs.Summing.{no_task}
@@ -12,7 +12,7 @@ returns-in-Some g c =
     let words = map string_bytes c.args.words.now in
     let left = g.S.Source.left c.args.source.now in
     let faults = g.S.Source.faults c.args.source.now in
-    let call : (w : _) → Call = λ w. record {
+    let call : List (List ℕ) → Call = λ w. record {
       words = w;
       left = left;
       left_now = left;

@@ -462,8 +462,41 @@ const LOSSES_OF_TWO_PHASES_REPORT: &str = "\
     converts io 0 0 0 0 0 0 0\n\
     end\n";
 
+// A file of 25 chunks that a sweep converts twice.
+const A_SWEEP: &str = "\
+    morph 1\n\
+    servers 16\n\
+    chunk 4096\n\
+    points 1 2 4\n\
+    stage 6 3 1\n\
+    stage 6 3 0\n\
+    stage 12 3 0\n\
+    policy 0 7 30\n\
+    file big pattern 100000 0\n\
+    phase\n\
+    client\n\
+    create big\n\
+    tick 31\n\
+    phase\n\
+    client\n\
+    sweep\n\
+    read big\n\
+    end\n";
+
+const A_SWEEP_REPORT: &str = "\
+    report 1\n\
+    1.1.1 create big: created io 0 0 0 0 65 65 0\n\
+    2.1.1 sweep: swept 2 io 0 0 15 0 9 74 0\n\
+    2.1.1 big converted 0 to 1 made 0\n\
+    2.1.1 big converted 1 to 2 made 9\n\
+    2.1.2 read big: bytes 100000 gen 2 from 25 sha256 cd2df694e424bc7968cc37f47751019e5ca0cd1bdf2e479ea537c3a1c32ee1aa io 25 0 0 0 0 0 0\n\
+    total io 25 0 15 0 74 139 0\n\
+    converts io 0 0 15 0 9 74 0\n\
+    end\n";
+
 /// A script, and its report.
-pub const RUNS: [(&str, &str); 12] = [
+pub const RUNS: [(&str, &str); 13] = [
+    (A_SWEEP, A_SWEEP_REPORT),
     (AN_EMPTY_FILE, AN_EMPTY_FILE_REPORT),
     (A_SHORT_STRIPE, A_SHORT_STRIPE_REPORT),
     (A_CONVERSION, A_CONVERSION_REPORT),

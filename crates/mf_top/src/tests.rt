@@ -3,6 +3,7 @@ mod rows;
 mod seeds;
 
 use super::*;
+use mf_client::Free;
 use mf_io::{MemorySink, MemorySource};
 use std::process::Abort;
 use std::test::Fail;

@@ -216,7 +216,7 @@ fine : (m : ℕ) (b : Bool) → ((m ≡ 0) × (b ≡ false)) ⊎ (m ≡ 5) → m
 fine m b (inl h) other = h
 fine m b (inr e) other = absurd (other e)
 
-runs_alike : (words : List (List ℕ)) (text : List ℕ) (m n : ℕ) (x y : List ℕ) → AsksNoSeed words
+runs_alike : (words : List (List ℕ)) (text : List ℕ) (m n : ℕ) (x y : List ℕ)
     → ((s : Script) → IsScript text s → IsPlain s) → Ran words text m x → Ran words text n y → m ≢ 5 → n ≢ 5
     → SameAnswer m n x y
 unfolding SameAnswer

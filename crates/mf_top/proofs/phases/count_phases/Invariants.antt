@@ -1,5 +1,5 @@
 use Rattle.std.proofs.Common.{◌≡◌, length, take}
-use Rattle.mf_client.specs.Clients.{phases_in}
+use Rattle.mf_lines.specs.Meaning.{phases_in}
 use Rattle.mf_top.proofs.phases.count_phases.Given as goal
 
 abbrev pub invariant-loop-item : goal.invariant-loop-item

@@ -1,4 +1,5 @@
 mod json;
+mod live;
 mod rows;
 mod seeds;
 

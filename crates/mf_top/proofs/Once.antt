@@ -1,4 +1,4 @@
--- A script has one plain run, words and a text have one answer, and a call ends well where nothing fails.
+-- A script has one run, words and a text have one answer, and a call ends well where nothing fails.
 use Rattle.std.proofs.Common.{◌≡◌, ◌≢◌, ℕ, zero, suc, ◌⊎◌, inl, inr, Bool, true, false, List, [], ◌∷◌, ◌++◌, map}
 use Rattle.std.proofs.Common.{◌≤◌, length, Option, Some, All, refl, sym, ap, ◌∙◌, subst, arith}
 use Rattle.std.specs.Prelude.{IfSome, ◌<◌, ◌^◌}
@@ -25,7 +25,7 @@ use Rattle.mf_report.specs.Verdicts.{accepted_text, refused_text, words_refusal}
 use Rattle.mf_crew.specs.Files.{left_by}
 use Rattle.mf_crew.specs.Alone.{first_actors, RunsPhase}
 use Rattle.mf_crew.specs.Live.{IsPhase}
-use Rattle.mf_top.specs.PlainRun.{new_file, RunsTo, IsPlainRun}
+use Rattle.mf_top.specs.ScriptRun.{new_file, RunsTo, IsScriptRun}
 use Rattle.mf_top.specs.Answers.{task_words, seed_words, AsksNoSeed, AsksNothing, IsRefused, IsRun, IsAnswer}
 use Rattle.mf_top.specs.Answers.{reported, lacked, accepted, refused, summed, sum_lacked, no_words}
 use Rattle.mf_top.specs.Ends.{Call, Ends}
@@ -36,7 +36,7 @@ use Rattle.mf_top.proofs.Summing.{no_task}
 use Rattle.mf_top.specs.declared.Status.{Status}
 use Rattle.mf_top.specs.declared.Status.TheVariants as ended
 
--- ---- a script has one plain run
+-- ---- a script has one run
 
 none_lacks : (done : List Done) → list_any lacks_memory done ≡ false → All HadMemory done
 none_lacks [] e = All-nil HadMemory
@@ -224,7 +224,7 @@ runs_alike words text m n x y plain a b one other =
     let fine_a = fine m _ a.status one in
     let fine_b = fine n _ b.status other in
     let script : a.script ≡ b.script = scripts_are.script text a.script b.script a.run.script b.run.script in
-    let mine : IsPlainRun b.script a.done a.files = subst (λ s. IsPlainRun s a.done a.files) script a.run.run in
+    let mine : IsScriptRun b.script a.done a.files = subst (λ s. IsScriptRun s a.done a.files) script a.run.run in
     let same = runs_once b.script (length (phases_in b.script.items)) a.done b.done a.files b.files
     (plain b.script b.run.script) (omega arith) mine b.run.run (none_lacks a.done fine_a.1)
     (none_lacks b.done fine_b.1) in

@@ -47,7 +47,7 @@ use Rattle.mf_report.specs.Report.{took, conversions}
 use Rattle.mf_report.proofs.Cells.{here_is_digest}
 use Rattle.mf_crew.specs.Alone.{first_actors}
 use Rattle.mf_crew.specs.Live.{Ran, AllRan, IsPhase}
-use Rattle.mf_top.specs.PlainRun.{RunsTo}
+use Rattle.mf_top.specs.ScriptRun.{RunsTo}
 use Rattle.mf_top.specs.Laws.{cell_text, DigestsAreOfCells, ReadsNoData, ConversionsReadNoData}
 
 -- ---- digests

@@ -25,7 +25,7 @@ use Rattle.mf_client.specs.Runs.{RunsFrom}
 use Rattle.mf_crew.specs.Files.{HasPhase, RestsBy, AllRestBy}
 use Rattle.mf_crew.specs.Alone.{first_actors}
 use Rattle.mf_crew.specs.Live.{Ran, AllRan, IsPhase}
-use Rattle.mf_top.specs.PlainRun.{new_file, new_from, new_files, AreOfLines, RunsTo, IsPlainRun}
+use Rattle.mf_top.specs.ScriptRun.{new_file, new_from, new_files, AreOfLines, RunsTo, IsScriptRun}
 use Rattle.mf_crew.proofs.Limits.{in_clients, in_item, in_items}
 
 -- ---- lists
@@ -271,7 +271,7 @@ run_next s n P done more new files mid now at so_far phase are small next_small 
     )
 
 pub run_ends : (s : Script) (n : ℕ) (done : List Done) (files : List Resting) → n ≡ length (phases_in s.items)
-    → RunsTo s n done files → IsPlainRun s done files
+    → RunsTo s n done files → IsScriptRun s done files
 run_ends s n done files e runs = subst (λ k. RunsTo s k done files) e runs
 
 -- one item more that is counted

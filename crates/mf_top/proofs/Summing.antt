@@ -10,7 +10,7 @@ use Rattle.mf_client.specs.declared.done.Done.{Done}
 use Rattle.mf_client.specs.Lacks.{lacks_memory}
 use Rattle.mf_report.specs.Report.{report_text}
 use Rattle.mf_report.specs.Summary.{summary_text}
-use Rattle.mf_top.specs.PlainRun.{AreOfLines, IsPlainRun}
+use Rattle.mf_top.specs.ScriptRun.{AreOfLines, IsScriptRun}
 use Rattle.mf_top.specs.Answers.{task_words, seed_words, IsRun, IsAnswer, summed, sum_lacked}
 use Rattle.mf_top.specs.Writes.{Output, Writes}
 use Rattle.mf_top.specs.declared.Task.{Task}
@@ -27,7 +27,7 @@ no_task n Check e = cc
 
 -- what is known of a run, where its commands and files are borrowed
 pub run_of : (n : ℕ) (s : Script) (done mine : List Done) (files theirs : List Resting) → IsScript (seed_text n) s
-    → IsPlainRun s done files → AreOfLines s files → mine ≡ done → theirs ≡ files → IsRun (seed_text n) s mine theirs
+    → IsScriptRun s done files → AreOfLines s files → mine ≡ done → theirs ≡ files → IsRun (seed_text n) s mine theirs
 run_of n s done mine files theirs is run left first rests =
     let whole : IsRun (seed_text n) s done files = record { script = is; run = run; left = left } in
     subst (λ fs. IsRun (seed_text n) s mine fs) (sym rests)

@@ -15,7 +15,7 @@ use Rattle.mf_report.specs.Json.{written_text}
 use Rattle.mf_report.specs.Report.{report_text}
 use Rattle.mf_report.specs.Summary.{summary_text}
 use Rattle.mf_report.specs.Verdicts.{accepted_text, refused_text, words_refusal}
-use Rattle.mf_top.specs.PlainRun.{AreOfLines, IsPlainRun}
+use Rattle.mf_top.specs.ScriptRun.{AreOfLines, IsScriptRun}
 use Rattle.mf_top.specs.declared.Task.{Task}
 use Rattle.mf_top.specs.declared.Task.TheVariants.{Run, Check}
 
@@ -53,7 +53,7 @@ pub record IsRefused (text : List ℕ) (fault : ScriptFault) : Type 0 where
 -- The text is this script, its phases did these commands, and these files are left, which are the script's, at rest.
 pub record IsRun (text : List ℕ) (s : Script) (done : List Done) (files : List Resting) : Type 0 where
   pub script : IsScript text s
-  pub run : IsPlainRun s done files
+  pub run : IsScriptRun s done files
   pub left : AreOfLines s files
 
 -- The status of an answer, and its bytes. With `run` a script has the report of its run, as lines or as JSON: with status

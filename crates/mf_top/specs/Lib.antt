@@ -1,5 +1,5 @@
 -- What the public calls promise.
-pub mod PlainRun
+pub mod ScriptRun
 pub mod Answers
 pub mod Writes
 pub mod Ends

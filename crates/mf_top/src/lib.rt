@@ -98,8 +98,9 @@ enum Status {
 /// is that of the plain encoding of its file's bytes, although no conversion's ledger holds a data
 /// read; every read gives the bytes written at creation, through one published generation whose
 /// chunks stay until unpinned, or names more lost chunks of one stripe than that generation
-/// tolerates, or an unreachable server of its command, or want of memory. `README.md` says phrase
-/// by phrase which part of the clause says it.
+/// tolerates, or an unreachable server of its command, or want of memory. That the chunks stay is a
+/// law of the file machine, whose rule the files' tables keep; all else follows from this call's
+/// clause. `README.md` says phrase by phrase which part says it.
 pub fn morph<R: Threads + Wait + Sync, S: Source, K: Sink, T: Turnstile>(
     rt: &R,
     alloc: Global,

@@ -6,7 +6,7 @@ ghost use Rattle.mf_client.specs.declared.done.Done.{Done};
 ghost use Rattle.mf_lines.specs.Meaning.{phases_in};
 ghost use Rattle.mf_plain.specs.Resting.{AtRest};
 ghost use Rattle.mf_client.specs.Runs.{IsSmall};
-ghost use Rattle.mf_top.specs.PlainRun.{new_file, new_files, AreOfLines, IsPlainRun};
+ghost use Rattle.mf_top.specs.ScriptRun.{new_file, new_files, AreOfLines, IsScriptRun};
 ghost use Rattle.mf_top.specs.Between.{IsOfText};
 
 use mf_client::{Done, Turnstile};
@@ -27,7 +27,7 @@ pub fn run<R: Threads + Wait + Sync, T: Turnstile>(
     turnstile: &T,
 ) -> Result<PhaseRun, AllocError>
     requires { IsOfText script.now }
-    ensures plain { IfOk result (λ ran. IsPlainRun script.now ran.done.items ran.files.items) }
+    ensures plain { IfOk result (λ ran. IsScriptRun script.now ran.done.items ran.files.items) }
     ensures left { IfOk result (λ ran. AreOfLines script.now ran.files.items) }
     ensures few { IfOk result (λ ran. length ran.done.items ≤ 4096) }
     ensures small { IfOk result (λ ran. All (λ (d : Done). IsSmall d.io) ran.done.items) }

@@ -1,5 +1,5 @@
 use Rattle.std.proofs.Common.{◌≡◌, take}
-use Rattle.mf_top.specs.PlainRun.{new_from}
+use Rattle.mf_top.specs.ScriptRun.{new_from}
 use Rattle.mf_top.proofs.phases.new_files.Given as goal
 
 abbrev pub invariant-loop-n : goal.invariant-loop-n

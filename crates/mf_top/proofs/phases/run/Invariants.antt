@@ -2,7 +2,7 @@ use Rattle.std.proofs.Common.{All}
 use Rattle.mf_script.specs.Phases.{ticks_before}
 use Rattle.mf_client.specs.declared.done.Done.{Done}
 use Rattle.mf_client.specs.Runs.{IsSmall}
-use Rattle.mf_top.specs.PlainRun.{RunsTo}
+use Rattle.mf_top.specs.ScriptRun.{RunsTo}
 use Rattle.mf_crew.specs.Files.{AllRestBy}
 use Rattle.mf_top.proofs.phases.run.Given as goal
 

@@ -48,5 +48,5 @@ RunsTo s (suc n) done files =
     × IsPhase s (suc n) (ticks_before s (suc n)) mid last files × (done ≡ before ++ last)
 
 -- the commands of all phases were done so, and these files are left
-abbrev pub IsPlainRun : Script → List Done → List Resting → Type 0
-IsPlainRun s done files = RunsTo s (length (phases_in s.items)) done files
+abbrev pub IsScriptRun : Script → List Done → List Resting → Type 0
+IsScriptRun s done files = RunsTo s (length (phases_in s.items)) done files

@@ -137,6 +137,35 @@ const HELD_FIRST_REPORT: &str = "\
     88d4266fd4e6338d13b845fcf289579d209c897823b9217da3e161936f031589 io 4 0 0 0 0 0 0\n\
     total io 8 0 4 0 14 18 0\nconverts io 0 0 4 0 2 6 0\nend\n";
 
+const SWEEP_A_HELD_FILE: &str = "\
+    morph 1\nservers 6\nchunk 1\npoints 1 2\nstage 2 2 1\nstage 4 2 0\npolicy 0 1\n\
+    file a text abcd\nphase\nclient\ncreate a\ntick 1\nphase\nclient\nsweep\nread a\n\
+    client\nhold a\nread a\nend\n";
+
+// The second client holds before the first sweeps, and reads once the sweep is done.
+const HELD_BEFORE_THE_SWEEP: [Hold; 2] = [
+    Hold {
+        client: 1,
+        coming: 2,
+        others: 2,
+    },
+    Hold {
+        client: 2,
+        coming: 2,
+        others: 3,
+    },
+];
+
+const SWEEP_A_HELD_FILE_REPORT: &str = "\
+    report 1\n1.1.1 create a: created io 0 0 0 0 12 12 0\n\
+    2.1.1 sweep: swept 1 io 0 0 4 0 2 6 0\n2.1.1 a converted 0 to 1 made 2\n\
+    2.1.2 read a: bytes 4 gen 1 from 4 sha256 \
+    88d4266fd4e6338d13b845fcf289579d209c897823b9217da3e161936f031589 io 4 0 0 0 0 0 0\n\
+    2.2.1 hold a: held 0 io 0 0 0 0 0 0 0\n\
+    2.2.2 read a: bytes 4 gen 0 from 4 sha256 \
+    88d4266fd4e6338d13b845fcf289579d209c897823b9217da3e161936f031589 io 4 0 0 0 0 0 0\n\
+    total io 8 0 4 0 14 18 0\nconverts io 0 0 4 0 2 6 0\nend\n";
+
 // Runs a script with these holds; its report is one of these two, and nobody gave up.
 fn try_order<R: Threads + Wait + Abort + Sync>(
     rt: &R,
@@ -197,5 +226,17 @@ fn a_report_follows_the_order_of_the_clients(rt: HostRuntime) -> Result<(), Fail
         &HELD_FIRST,
         HELD_FIRST_REPORT,
         HELD_FIRST_REPORT,
+    )
+}
+
+#[test]
+fn a_sweep_converts_a_file_that_another_client_holds(rt: HostRuntime) -> Result<(), Fail> {
+    try_order(
+        &rt,
+        rt.alloc(),
+        SWEEP_A_HELD_FILE,
+        &HELD_BEFORE_THE_SWEEP,
+        SWEEP_A_HELD_FILE_REPORT,
+        SWEEP_A_HELD_FILE_REPORT,
     )
 }

@@ -494,8 +494,37 @@ const A_SWEEP_REPORT: &str = "\
     converts io 0 0 15 0 9 74 0\n\
     end\n";
 
+// A file that is held twice, and released twice.
+const A_SECOND_HOLD: &str = "\
+    morph 1\n\
+    servers 6\n\
+    chunk 1\n\
+    points 1 2\n\
+    stage 2 2 1\n\
+    stage 4 2 0\n\
+    file a text abcd\n\
+    phase\n\
+    client\n\
+    create a\n\
+    hold a\n\
+    hold a\n\
+    release a\n\
+    release a\n\
+    end\n";
+
+const A_SECOND_HOLD_REPORT: &str = "\
+    report 1\n\
+    1.1.1 create a: created io 0 0 0 0 12 12 0\n\
+    1.1.2 hold a: held 0 io 0 0 0 0 0 0 0\n\
+    1.1.3 hold a: already 0 io 0 0 0 0 0 0 0\n\
+    1.1.4 release a: released 0 io 0 0 0 0 0 0 0\n\
+    1.1.5 release a: notheld io 0 0 0 0 0 0 0\n\
+    total io 0 0 0 0 12 12 0\n\
+    converts io 0 0 0 0 0 0 0\n\
+    end\n";
+
 /// A script, and its report.
-pub const RUNS: [(&str, &str); 13] = [
+pub const RUNS: [(&str, &str); 14] = [
     (A_SWEEP, A_SWEEP_REPORT),
     (AN_EMPTY_FILE, AN_EMPTY_FILE_REPORT),
     (A_SHORT_STRIPE, A_SHORT_STRIPE_REPORT),
@@ -509,6 +538,7 @@ pub const RUNS: [(&str, &str); 13] = [
     (A_REMOVED_FILE, A_REMOVED_FILE_REPORT),
     (SERVERS_AWAY, SERVERS_AWAY_REPORT),
     (LOSSES_OF_TWO_PHASES, LOSSES_OF_TWO_PHASES_REPORT),
+    (A_SECOND_HOLD, A_SECOND_HOLD_REPORT),
 ];
 
 /// What the program writes for a script, with status 0.

@@ -205,7 +205,8 @@ swept_left thresholds (outcome.Swept n) parts before after few most kept idle x 
 swept_left thresholds outcome.Memory parts before after few most kept idle x = record {
   idle = subst (All IsIdle) (sym x.1) idle;
   facts = ap facts_in x.1;
-  small = subst IsSmall (sym (ap (io_gained before) x.1 ∙ Rattle.mf_client.proofs.Numbered.io_same before)) nothing_small;
+  small = subst IsSmall (sym (ap (io_gained before) x.1 ∙ Rattle.mf_client.proofs.Numbered.io_same before))
+      nothing_small;
 }
 swept_left thresholds other parts before after few most kept idle x = absurd x
 
@@ -291,7 +292,8 @@ running_more s phase client i start now after done items d next x kept few most 
     let c = get_or commands i d in
     let cut = cut_all (away_of c.act) now in
     let many = length-map now (did (cut_off (away_of c.act))) in
-    let left = acts_left s.policy c.line c.act next.outcome next.parts cut after few (omega arith) (filed_cut (away_of c.act) now (filed now kept))
+    let left = acts_left s.policy c.line c.act next.outcome next.parts cut after few (omega arith)
+    (filed_cut (away_of c.act) now (filed now kept))
     (idle_cut (away_of c.act) now x.idle) one.acts in
     let more : suc i ≡ i + 1 = omega arith in
     let front = sym (take-suc commands i d low) ∙ ap (λ k. take k commands) more in
@@ -371,7 +373,8 @@ finds_there text s phase client i start now d is has files kept idle same low =
       few = few_files now s phase kept here;
       file = λ n e. subst (λ (o : Option ℕ). IfSome o (λ file. file < length s.files)) e
           (command_knows text s phase client i d is low).0;
-      policy = λ e. has_policy text s is (subst (IsPolicied s.policy) e (command_knows text s phase client i d is low).1);
+      policy = λ e. has_policy text s is
+          (subst (IsPolicied s.policy) e (command_knows text s phase client i d is low).1);
       lines = λ server e. lines_all c.line server (losses_of s phase) (facts_in now)
           (losses_same s phase (facts_in now) here) (lose_listed s phase client i server d has low e);
     }
@@ -393,7 +396,8 @@ family_all s phase xs files k d low = by_line s.files refl
   where
     by_line : (ls : List FileLine) → ls ≡ s.files
         → IsOfFamily (family_of s).shape (family_of s).points (get_or xs k d).facts.book
-    by_line [] e = absurd (let n = ap length e in let m = files.count in let o = length-map xs (λ (a : Actor). a.facts) in
+    by_line [] e = absurd
+        (let n = ap length e in let m = files.count in let o = length-map xs (λ (a : Actor). a.facts) in
         omega arith)
     by_line (l ∷ ls) e =
         let m = files.count in

@@ -39,7 +39,8 @@ due_low thresholds ages few =
     let files = range_with_len 0 (length ages) in
     All-filter (λ (d : ℕ × ℕ). not (eqb d.1 0)) (λ (d : ℕ × ℕ). d.1 ≤ 4) (map (due_file thresholds ages) files)
     (All-map (λ (d : ℕ × ℕ). d.1 ≤ 4) (due_file thresholds ages) files
-    (λ k d low. let most = greatest_low (has_reached thresholds (get_or ages (get_or files k d) 0)) (length thresholds) in
+    (λ k d low. let most = greatest_low (has_reached thresholds (get_or ages (get_or files k d) 0)) (length thresholds)
+    in
     omega arith))
 
 low_visits : (visits : List Visit) (dues : List (ℕ × ℕ)) → dues_of visits ≡ dues → LowDues dues → AreLow visits

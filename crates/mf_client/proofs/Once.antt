@@ -407,7 +407,8 @@ acts_whole : (policy : Option (List ℕ)) (line : ℕ) (x : Act) (o : Outcome) (
     (before after : List Actor) → All IsWhole before
     → Acts policy line x o parts before after → All IsWhole after
 acts_whole policy line (act.Create file) o parts before after w x = on_whole (act.Create file) o file before after w x.1
-acts_whole policy line (act.Read file away) o parts before after w x = on_whole (act.Read file away) o file before after w x.1
+acts_whole policy line (act.Read file away) o parts before after w x = on_whole (act.Read file away) o file before after
+    w x.1
 acts_whole policy line (act.Repair file away) o parts before after w x =
     on_whole (act.Repair file away) o file before after w x.1
 acts_whole policy line (act.Convert file away stop) o parts before after w x =
@@ -416,7 +417,8 @@ acts_whole policy line (act.Reclaim file) o parts before after w x =
     on_whole (act.Reclaim file) o file before after w x.1
 acts_whole policy line (act.Remove file) o parts before after w x = on_whole (act.Remove file) o file before after w x.1
 acts_whole policy line (act.Hold file) o parts before after w x = on_whole (act.Hold file) o file before after w x.1
-acts_whole policy line (act.Release file) o parts before after w x = on_whole (act.Release file) o file before after w x.1
+acts_whole policy line (act.Release file) o parts before after w x = on_whole (act.Release file) o file before after w
+    x.1
 acts_whole policy line (act.Lose server) o parts before after w x = lose_whole server line o before after w x.1
 acts_whole policy line act.Sweep o parts before after w x = swept_by_whole policy o parts before after w x
 

@@ -27,13 +27,18 @@ use Rattle.mf_client.proofs.Turns.{turn_leaves, turn_adds, all_few, parts_few}
 
 swapped : (p q r s : Io) → add_io (add_io p q) (add_io r s) ≡ add_io (add_io p r) (add_io q s)
 swapped p q r s =
-    let a : (p.pieces + q.pieces) + (r.pieces + s.pieces) ≡ (p.pieces + r.pieces) + (q.pieces + s.pieces) = omega arith in
-    let b : (p.copies + q.copies) + (r.copies + s.copies) ≡ (p.copies + r.copies) + (q.copies + s.copies) = omega arith in
+    let a : (p.pieces + q.pieces) + (r.pieces + s.pieces) ≡ (p.pieces + r.pieces) + (q.pieces + s.pieces) = omega arith
+    in
+    let b : (p.copies + q.copies) + (r.copies + s.copies) ≡ (p.copies + r.copies) + (q.copies + s.copies) = omega arith
+    in
     let c : (p.parities + q.parities) + (r.parities + s.parities)
     ≡ (p.parities + r.parities) + (q.parities + s.parities) = omega arith in
-    let d : (p.misses + q.misses) + (r.misses + s.misses) ≡ (p.misses + r.misses) + (q.misses + s.misses) = omega arith in
-    let e : (p.writes + q.writes) + (r.writes + s.writes) ≡ (p.writes + r.writes) + (q.writes + s.writes) = omega arith in
-    let f : (p.probes + q.probes) + (r.probes + s.probes) ≡ (p.probes + r.probes) + (q.probes + s.probes) = omega arith in
+    let d : (p.misses + q.misses) + (r.misses + s.misses) ≡ (p.misses + r.misses) + (q.misses + s.misses) = omega arith
+    in
+    let e : (p.writes + q.writes) + (r.writes + s.writes) ≡ (p.writes + r.writes) + (q.writes + s.writes) = omega arith
+    in
+    let f : (p.probes + q.probes) + (r.probes + s.probes) ≡ (p.probes + r.probes) + (q.probes + s.probes) = omega arith
+    in
     let g : (p.drops + q.drops) + (r.drops + s.drops) ≡ (p.drops + r.drops) + (q.drops + s.drops) = omega arith in
     λ i. record { pieces = a i; copies = b i; parities = c i; misses = d i; writes = e i; probes = f i; drops = g i }
 
@@ -149,7 +154,8 @@ visit_passes v before after low idle kept on =
     let most = adds.few in
     let gains : gained on.old on.new ≡ adds.entries =
     ap (drop (length on.old.entries)) adds.are ∙ drop-append_seam on.old.entries adds.entries in
-    let now_kept : IsFiled on.new = subst (λ (f : Facts). Rattle.mf_vault.specs.Licence.IsFile f) (sym left.facts) was_kept in
+    let now_kept : IsFiled on.new = subst (λ (f : Facts). Rattle.mf_vault.specs.Licence.IsFile f) (sym left.facts)
+    was_kept in
     record {
       idle = subst (All IsIdle) (sym on.is) (All-set IsIdle before v.file on.new left.idle idle);
       filed = subst (All IsFiled) (sym on.is) (All-set IsFiled before v.file on.new now_kept kept);

@@ -20,7 +20,8 @@ use Rattle.mf_client.specs.Clients.{AreFiles, facts_in, commands_of, family_of}
 use Rattle.mf_client.specs.Acts.{IsCreated, IsReadOut, IsRepaired, IsConverted, IsReclaimed}
 use Rattle.mf_client.specs.Acts.{IsRemoved, IsHeld, IsReleased}
 use Rattle.mf_client.specs.Runs.{RunsFrom, IsSmall}
-use Rattle.mf_client.specs.Sweeps.{Visit, ConvertsInTurn, Visits, VisitsInTurn, is_converted, parts_of, parts_in, dues_of}
+use Rattle.mf_client.specs.Sweeps.{Visit, ConvertsInTurn, Visits, VisitsInTurn, is_converted, parts_of, parts_in}
+use Rattle.mf_client.specs.Sweeps.{dues_of}
 
 -- what came of a command on one file
 abbrev pub Comes : Act → Outcome → Actor → Actor → Type 0

@@ -1,6 +1,7 @@
 //! The command that converts each file up to the stage for which it is due.
 
-ghost use Rattle.std.specs.Prelude.{◌≡◌, ◌+◌, ◌*◌, ◌<◌, ◌≤◌, ◌++◌, ◌∷◌, [], All, IfOk, OnErr, length, map};
+ghost use Rattle.std.specs.Prelude.{◌≡◌, ◌+◌, ◌*◌, ◌<◌, ◌≤◌, ◌++◌, ◌∷◌, [], All, IfOk, OnErr};
+ghost use Rattle.std.specs.Prelude.{length, map};
 ghost use Rattle.std.specs.Prelude.{count_by, vec_capacity};
 ghost use Rattle.mf_policy.specs.Due.{sweep_of};
 ghost use Rattle.mf_vault.specs.Actor.{Actor};

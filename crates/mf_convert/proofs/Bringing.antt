@@ -24,9 +24,11 @@ use Rattle.mf_convert.proofs.Listed.{first_apart}
 without_else : (m n : ℕ) (xs : List ℕ) → m ≢ n → times m (without n xs) ≡ times m xs
 without_else m n [] ne = refl
 without_else m n (x ∷ xs) ne = let r = without_else m n xs ne in dite (ℕ_discrete x n)
-    (λ e. subst (λ (b : Bool). times m (cond b (without n xs) (x ∷ without n xs)) ≡ times m (x ∷ xs)) (sym (eq-eqb x n e))
+    (λ e. subst (λ (b : Bool). times m (cond b (without n xs) (x ∷ without n xs)) ≡ times m (x ∷ xs))
+    (sym (eq-eqb x n e))
     (let z = times_else m x xs (λ h. ne (h ∙ e)) in r ∙ sym z))
-    (λ h. subst (λ (b : Bool). times m (cond b (without n xs) (x ∷ without n xs)) ≡ times m (x ∷ xs)) (sym (ne_eqb x n h)) (omega arith))
+    (λ h. subst (λ (b : Bool). times m (cond b (without n xs) (x ∷ without n xs)) ≡ times m (x ∷ xs))
+    (sym (ne_eqb x n h)) (omega arith))
 
 -- what the calls for a name leave: others stand as before, and the name is settled
 pub record Brought (m : ℕ) (x : Name) (s : State) (a : Actor) : Type 0 where
@@ -119,7 +121,8 @@ bringing_more {f = f} names states i {a = a} {b = b} {c = c} k is long low more 
     let s = get_or states i Unborn in
     let here : i < length states = omega arith in
     let calls : Does (brings (take i names) (take i states) ++ (bring x s ++ [])) a c =
-    subst (λ l. Does (brings (take i names) (take i states) ++ l) a c) (sym (append-nil (bring x s))) (then k.does more) in
+    subst (λ l. Does (brings (take i names) (take i states) ++ l) a c) (sym (append-nil (bring x s))) (then k.does more)
+    in
     let same = brings_more (take i names) (take i states) x s
     (length-take-le i names (omega arith) ∙ sym (length-take-le i states (omega arith))) in
     record {
@@ -146,12 +149,14 @@ bringing_more {f = f} names states i {a = a} {b = b} {c = c} k is long low more 
       marks j d r from below =
           subst (λ g. IsMarked (did_all (bring y t) b).view.build (number g (get_or names j d)) (get_or states j r))
           (sym (facts_brought y t b))
-          (marked_else (number b.facts (get_or names j d)) y t (get_or states j r) b (differ j d (omega arith) (omega arith))
+          (marked_else (number b.facts (get_or names j d)) y t (get_or states j r) b
+          (differ j d (omega arith) (omega arith))
           (k.marked j d r (omega arith) below))
 
       settles : AreSettled (did_all (bring y t) b) (i + 1) names
       settles j d below =
-          subst (λ g. Among (number g (get_or names j d)) (did_all (bring y t) b).view.build.settled) (sym (facts_brought y t b))
+          subst (λ g. Among (number g (get_or names j d)) (did_all (bring y t) b).view.build.settled)
+          (sym (facts_brought y t b))
           (dite (ℕ_discrete j i)
           (λ e. (brought (number b.facts (get_or names j d)) y t b).here
           (ap (λ n. number b.facts n) (ap (λ n. get_or names n d) e ∙ get_or_default names i d (Data 0) low))
@@ -159,7 +164,8 @@ bringing_more {f = f} names states i {a = a} {b = b} {c = c} k is long low more 
           (λ ne. (brought (number b.facts (get_or names j d)) y t b).settled (k.settled j d (omega arith))))
 
 -- the place of the cell at hand, out of as many cells as names
-pub at_hand : {C : Type 0} (f : Name → C) (names : List Name) (yielded : List C) {cells rest left : List C} {cell : C} {i : ℕ}
+pub at_hand : {C : Type 0} (f : Name → C) (names : List Name) (yielded : List C) {cells rest left : List C} {cell : C}
+    {i : ℕ}
     → cells ≡ map f names
     → cells ≡ yielded ++ left → left ≡ cell ∷ rest → i ≡ length yielded → i < length names
 at_hand f names yielded {cells = cells} {rest = rest} {left = left} {cell = cell} made split next count =

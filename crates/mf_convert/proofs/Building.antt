@@ -42,22 +42,28 @@ probe_stays {f = f} {x = x} {s = s} {a = a} k g = subst (λ (z : Actor). IsFirst
   cut = k.cut;
 } where
   build : (s : State) → IsBuilding (did (probe x s) a) 0
-  build Unborn = record { right = k.building.right; looked = k.building.looked; last = k.building.last; seen = k.building.seen }
-  build Here = record { right = k.building.right; looked = k.building.looked; last = k.building.last; seen = k.building.seen }
-  build (Lost l) = record { right = k.building.right; looked = k.building.looked; last = k.building.last; seen = k.building.seen }
-  build (Away y) = record { right = k.building.right; looked = k.building.looked; last = k.building.last; seen = k.building.seen }
+  build Unborn = record
+      { right = k.building.right; looked = k.building.looked; last = k.building.last; seen = k.building.seen }
+  build Here = record
+      { right = k.building.right; looked = k.building.looked; last = k.building.last; seen = k.building.seen }
+  build (Lost l) = record
+      { right = k.building.right; looked = k.building.looked; last = k.building.last; seen = k.building.seen }
+  build (Away y) = record
+      { right = k.building.right; looked = k.building.looked; last = k.building.last; seen = k.building.seen }
 
 pub bring_stays : {f : Facts} (x : Name) (s : State) {a b : Actor} → IsFirstBuilder f a → b ≡ did_all (bring x s) a
     → IsFirstBuilder f b
 bring_stays {f = f} x Unborn {a = a} k e = subst (λ (z : Actor). IsFirstBuilder f z) (sym e) record {
   facts = k.facts;
-  building = record { right = k.building.right; looked = k.building.looked; last = k.building.last; seen = k.building.seen };
+  building = record
+      { right = k.building.right; looked = k.building.looked; last = k.building.last; seen = k.building.seen };
   cut = k.cut;
 }
 bring_stays {f = f} x Here k e = subst (λ (z : Actor). IsFirstBuilder f z) (sym e) k
 bring_stays {f = f} x (Lost l) {a = a} k e = subst (λ (z : Actor). IsFirstBuilder f z) (sym e) record {
   facts = k.facts;
-  building = record { right = k.building.right; looked = k.building.looked; last = k.building.last; seen = k.building.seen };
+  building = record
+      { right = k.building.right; looked = k.building.looked; last = k.building.last; seen = k.building.seen };
   cut = k.cut;
 }
 bring_stays {f = f} x (Away y) k e = subst (λ (z : Actor). IsFirstBuilder f z) (sym e) k
@@ -97,20 +103,28 @@ not_away : (a : Actor) (x : Name) (s : State) → IsReached a x → FairState a 
 not_away a x s reach fair y e = reach (subst (λ t. FairState a x t) e fair).0
 
 -- one probe more
-pub marked_more : {f : Facts} (names : List Name) (states : List State) {all : List State} (n : ℕ) (d : Name) {s : State} {a b : Actor}
+pub marked_more : {f : Facts} (names : List Name) (states : List State) {all : List State} (n : ℕ) (d : Name)
+    {s : State} {a b : Actor}
     → IsFirstBuilder f a → AreMarked a 0 names states → length states ≡ n → Goes (probe (get_or names n d) s) a b
     → all ≡ states ++ s ∷ [] → n < length names → AreMarked b 0 names all
 marked_more {f = f} names states {all = all} n d {s = s} {a = a} {b = b} k marks long g e low =
-    subst (λ l. AreMarked b 0 names l) (sym e) (subst (λ (z : Actor). AreMarked z 0 names (states ++ s ∷ [])) (sym g.becomes) each) where
+    subst (λ l. AreMarked b 0 names l) (sym e)
+    (subst (λ (z : Actor). AreMarked z 0 names (states ++ s ∷ [])) (sym g.becomes) each) where
       each : AreMarked (did (probe (get_or names n d) s) a) 0 names (states ++ s ∷ [])
       each i x t from below = dite (ℕ_discrete i n)
-          (λ same. let here = marked_here (number a.facts (get_or names n d)) s a.view (not_away a (get_or names n d) s (reached k (get_or names n d)) g.fair) in
-          subst (λ j. IsMarked (see_view s (number a.facts (get_or names n d)) a.view).build (number a.facts (get_or names j x)) (get_or (states ++ s ∷ []) j t)) (sym same)
-          (subst (λ y. IsMarked (see_view s (number a.facts (get_or names n d)) a.view).build (number a.facts y) (get_or (states ++ s ∷ []) n t)) (get_or_default names n d x low)
-          (subst (λ u. IsMarked (see_view s (number a.facts (get_or names n d)) a.view).build (number a.facts (get_or names n d)) u) (sym (get_or_push states s t n long)) here)))
+          (λ same. let here = marked_here (number a.facts (get_or names n d)) s a.view
+          (not_away a (get_or names n d) s (reached k (get_or names n d)) g.fair) in
+          subst (λ j. IsMarked (see_view s (number a.facts (get_or names n d)) a.view).build
+          (number a.facts (get_or names j x)) (get_or (states ++ s ∷ []) j t)) (sym same)
+          (subst (λ y. IsMarked (see_view s (number a.facts (get_or names n d)) a.view).build (number a.facts y)
+          (get_or (states ++ s ∷ []) n t)) (get_or_default names n d x low)
+          (subst (λ u. IsMarked (see_view s (number a.facts (get_or names n d)) a.view).build
+          (number a.facts (get_or names n d)) u) (sym (get_or_push states s t n long)) here)))
           (λ other. let len = length_push states s in let before : i < length states = omega arith in
-          let m = marked_stays (number a.facts (get_or names n d)) (number a.facts (get_or names i x)) s (get_or states i t) a.view (marks i x t from before) in
-          subst (λ u. IsMarked (see_view s (number a.facts (get_or names n d)) a.view).build (number a.facts (get_or names i x)) u) (sym (get_or_append_left states (s ∷ []) t i before)) m)
+          let m = marked_stays (number a.facts (get_or names n d)) (number a.facts (get_or names i x)) s
+          (get_or states i t) a.view (marks i x t from before) in
+          subst (λ u. IsMarked (see_view s (number a.facts (get_or names n d)) a.view).build
+          (number a.facts (get_or names i x)) u) (sym (get_or_append_left states (s ∷ []) t i before)) m)
 
 -- a book has a first stage
 pub some_stage : (f : Facts) → IsFile f → 0 < stages f
@@ -123,7 +137,8 @@ may_put_first x {a = a} k file held e h = may_put_next a 0 x k.building (some_st
 
 pub may_restore_first : {f : Facts} (x : Name) {s : State} (l : ℕ) {a : Actor} → IsFirstBuilder f a → IsFile a.facts
     → IsFirst a.facts.book x → s ≡ Lost l → IsMarked a.view.build (number a.facts x) s → MayRestore x a
-may_restore_first x l {a = a} k file held e h = may_restore_next a 0 x k.building (some_stage a.facts file) held.0 held.1
+may_restore_first x l {a = a} k file held e h = may_restore_next a 0 x k.building (some_stage a.facts file) held.0
+    held.1
     (subst (λ t. IsMarked a.view.build (number a.facts x) t) e h).0 (reached k x)
 
 -- where a name of the first generation may be probed
@@ -155,4 +170,5 @@ probed_more xs ss n d {s = s} {a = a} {c = c} p long g e low =
     let calls : Does (probes (take n xs) ss ++ probe (get_or xs n d) s ∷ []) a c = more p g in
     let same = probes_more (take n xs) ss (get_or xs n d) s (length-take-le n xs (omega arith) ∙ sym long) in
     subst (λ l. Does (probes (take (n + 1) xs) l) a c) (sym e)
-    (subst (λ l. Does (probes l (ss ++ s ∷ [])) a c) (sym (take_more xs n d low)) (subst (λ l. Does l a c) (sym same) calls))
+    (subst (λ l. Does (probes l (ss ++ s ∷ [])) a c) (sym (take_more xs n d low))
+    (subst (λ l. Does l a c) (sym same) calls))

@@ -27,17 +27,18 @@ use Rattle.mf_convert.proofs.Listed.{first_of, first_found}
 pub may_publish_first : {f : Facts} (names : List Name) {q : Actor} → IsFirstBuilder f q → IsFile q.facts
     → names ≡ first_names f
     → AreSettled q (length names) names → MayPublish 1 q
-may_publish_first {f = f} names {q = q} k file is settled = may_publish_next q 0 k.building (some_stage q.facts file) each where
-  all : names ≡ first_of q.facts.book
-  all = is ∙ ap (λ g. first_of g.book) (sym k.facts)
+may_publish_first {f = f} names {q = q} k file is settled = may_publish_next q 0 k.building (some_stage q.facts file)
+    each where
+      all : names ≡ first_of q.facts.book
+      all = is ∙ ap (λ g. first_of g.book) (sym k.facts)
 
-  each : (x : Name) → HasName q.facts.book x → holds q.facts.book 0 x ≡ true
-      → Among (number q.facts x) q.view.build.settled
-  each x had h =
-      let stands = first_found q.facts.book x had h in
-      subst (λ y. Among (number q.facts y) q.view.build.settled)
-      (ap (λ (l : List Name). get_or l stands.place (Data 0)) all ∙ stands.is)
-      (settled stands.place (Data 0) (let low = stands.below in let long = ap length all in omega arith))
+      each : (x : Name) → HasName q.facts.book x → holds q.facts.book 0 x ≡ true
+          → Among (number q.facts x) q.view.build.settled
+      each x had h =
+          let stands = first_found q.facts.book x had h in
+          subst (λ y. Among (number q.facts y) q.view.build.settled)
+          (ap (λ (l : List Name). get_or l stands.place (Data 0)) all ∙ stands.is)
+          (settled stands.place (Data 0) (let low = stands.below in let long = ap length all in omega arith))
 
 pub built : (names : List Name) (states : List State) {a p q r z : Actor} → names ≡ first_names a.facts
     → length states ≡ length names

@@ -1,5 +1,5 @@
--- The names of the first generation: the first generation holds each of them, they have different numbers, and each name
--- that it holds is among them.
+-- The names of the first generation: the first generation holds each of them, they have different numbers, and each
+-- name that it holds is among them.
 use Rattle.std.proofs.Common.{◌≡◌, ◌≢◌, ℕ, zero, suc, ◌<◌, Bool, true, false, cond, List, [], ◌∷◌, length, get_or}
 use Rattle.std.proofs.Common.{filter, refl, ap, ◌∙◌, subst, arith}
 use Rattle.std.specs.List.{AllPairs}
@@ -56,7 +56,8 @@ pub found_in : (p : Name → Bool) (xs : List Name) (i : ℕ) (d : Name) → i <
     → StandsIn (get_or xs i d) d (filter p xs)
 found_in p [] i d low h = absurd (omega arith)
 found_in p (x ∷ xs) zero d low h = at_head (p x) x d (filter p xs) h
-found_in p (x ∷ xs) (suc i) d low h = with_head (p x) x (get_or xs i d) d (filter p xs) (found_in p xs i d (omega arith) h)
+found_in p (x ∷ xs) (suc i) d low h = with_head (p x) x (get_or xs i d) d (filter p xs)
+    (found_in p xs i d (omega arith) h)
 
 pub first_found : (b : BookFacts) (x : Name) → HasName b x → holds b 0 x ≡ true → StandsIn x (Data 0) (first_of b)
 unfolding name_at count_of

@@ -24,7 +24,8 @@ held : (b : BookFacts) (x y : Name) → IsFirst b x → x ≡ y → Holds b 0 y
 held b x y f e = subst (Holds b 0) e (Holds-from b 0 x f.1)
 
 long : {b : BookFacts} {file : List ℕ} {made : Made} → AreMade b file made → length made.chunks.items ≡ chunks_of b
-long {b = b} {file = file} m = ap length m.chunks ∙ (length-chunks b.chunk file ∙ ap (λ n. chunk_count b.chunk n) m.long)
+long {b = b} {file = file} m = ap length m.chunks
+    ∙ (length-chunks b.chunk file ∙ ap (λ n. chunk_count b.chunk n) m.long)
 
 pub chunk_below : {b : BookFacts} {file : List ℕ} {made : Made} (i : ℕ) → AreMade b file made → i < chunks_of b
     → i < length made.chunks.items
@@ -41,8 +42,10 @@ chunk_there {b = b} {file = file} i d m low = ap (λ l. get_or l i d) m.chunks
 -- the parities of a stripe
 row_count : {b : BookFacts} {file : List ℕ} {made : Made} → AreMade b file made
     → length made.parities.items ≡ first_stripes b
-row_count {b = b} {file = file} {made = made} m = sym (length-map made.parities.items (λ (v : Vec (List ℕ) Global). v.items)) ∙ (ap length m.parities
-    ∙ (length-map (range_with_len 0 (first_stripes b)) (parities_of b file) ∙ length-range_with_len 0 (first_stripes b)))
+row_count {b = b} {file = file} {made = made} m = sym
+    (length-map made.parities.items (λ (v : Vec (List ℕ) Global). v.items)) ∙ (ap length m.parities
+    ∙ (length-map (range_with_len 0 (first_stripes b)) (parities_of b file)
+    ∙ length-range_with_len 0 (first_stripes b)))
 
 pub row_below : {b : BookFacts} {file : List ℕ} {made : Made} (j : ℕ) → AreMade b file made → j < first_stripes b
     → j < length made.parities.items
@@ -61,7 +64,8 @@ pub parity_below : {b : BookFacts} {file : List ℕ} {made : Made} (j p : ℕ) (
     → AreMade b file made → j < first_stripes b
     → v ≡ get_or made.parities.items j v → p < parities_at b.shape.stages 0 → p < length v.items
 parity_below {b = b} {file = file} j p v m low is below =
-    let n = ap length (row_there j v m low is) ∙ length-map b.points (λ point. parity b.chunk file point (width_at b.shape.stages 0) j) in
+    let n = ap length (row_there j v m low is)
+    ∙ length-map b.points (λ point. parity b.chunk file point (width_at b.shape.stages 0) j) in
     let points = m.book.points in omega arith
 
 pub parity_there : {b : BookFacts} {file : List ℕ} {made : Made} (j p : ℕ) (v : Vec (List ℕ) Global) (d : List ℕ)
@@ -70,28 +74,34 @@ pub parity_there : {b : BookFacts} {file : List ℕ} {made : Made} (j p : ℕ) (
     → get_or v.items p d ≡ parity b.chunk file (get_or b.points p 0) (width_at b.shape.stages 0) j
 parity_there {b = b} {file = file} j p v d m low is below =
     ap (λ l. get_or l p d) (row_there j v m low is)
-    ∙ get_or-map (λ point. parity b.chunk file point (width_at b.shape.stages 0) j) b.points p 0 d (let points = m.book.points in omega arith)
+    ∙ get_or-map (λ point. parity b.chunk file point (width_at b.shape.stages 0) j) b.points p 0 d
+    (let points = m.book.points in omega arith)
 
 -- where the reads of a cell are in range
 pub data_below : {b : BookFacts} {file : List ℕ} {made : Made} (x : Name) (i : ℕ) (all : List (List ℕ))
     → AreMade b file made → IsFirst b x
     → x ≡ name.Data i → all ≡ made.chunks.items → i < length all
-data_below {b = b} x i all m f e is = let low = chunk_below i m (held b x (name.Data i) f e) in let n = ap length is in omega arith
+data_below {b = b} x i all m f e is = let low = chunk_below i m (held b x (name.Data i) f e) in let n = ap length is
+    in omega arith
 
 pub copy_below : {b : BookFacts} {file : List ℕ} {made : Made} (x : Name) (c i : ℕ) (all : List (List ℕ))
     → AreMade b file made → IsFirst b x
     → x ≡ name.Copy c i → all ≡ made.chunks.items → i < length all
-copy_below {b = b} x c i all m f e is = let low = chunk_below i m (held b x (name.Copy c i) f e).1 in let n = ap length is in omega arith
+copy_below {b = b} x c i all m f e is = let low = chunk_below i m (held b x (name.Copy c i) f e).1
+    in let n = ap length is in omega arith
 
 stripe_low : (b : BookFacts) (w j p : ℕ) → Holds b 0 (name.Parity w j p) → j < first_stripes b
 stripe_low b w j p h = subst (λ k. j < stripes_of b k) h.0 h.1
 
-pub stripe_below : {b : BookFacts} {file : List ℕ} {made : Made} (x : Name) (w j p : ℕ) (all : List (Vec (List ℕ) Global)) → AreMade b file made
+pub stripe_below : {b : BookFacts} {file : List ℕ} {made : Made} (x : Name) (w j p : ℕ)
+    (all : List (Vec (List ℕ) Global)) → AreMade b file made
     → IsFirst b x → x ≡ name.Parity w j p → all ≡ made.parities.items → j < length all
 stripe_below {b = b} x w j p all m f e is =
-    let low = row_below j m (stripe_low b w j p (held b x (name.Parity w j p) f e)) in let n = ap length is in omega arith
+    let low = row_below j m (stripe_low b w j p (held b x (name.Parity w j p) f e)) in let n = ap length is
+    in omega arith
 
-pub point_below : {b : BookFacts} {file : List ℕ} {made : Made} (x : Name) (w j p : ℕ) (all : List (Vec (List ℕ) Global)) (v : Vec (List ℕ) Global)
+pub point_below : {b : BookFacts} {file : List ℕ} {made : Made} (x : Name) (w j p : ℕ)
+    (all : List (Vec (List ℕ) Global)) (v : Vec (List ℕ) Global)
     (row : List (List ℕ)) → AreMade b file made → IsFirst b x → x ≡ name.Parity w j p → all ≡ made.parities.items
     → v ≡ get_or all j v
     → row ≡ v.items → p < length row
@@ -113,7 +123,8 @@ pub copy_is : {b : BookFacts} {file : List ℕ} {made : Made} (x : Name) (c i : 
 copy_is {b = b} {file = file} x c i all v m f e is at = at ∙ (ap (λ l. get_or l i v) is
     ∙ (chunk_there i v m (held b x (name.Copy c i) f e).1 ∙ ap (cell b file) (sym e)))
 
-pub parity_is : {b : BookFacts} {file : List ℕ} {made : Made} (x : Name) (w j p : ℕ) (all : List (Vec (List ℕ) Global)) (u : Vec (List ℕ) Global)
+pub parity_is : {b : BookFacts} {file : List ℕ} {made : Made} (x : Name) (w j p : ℕ) (all : List (Vec (List ℕ) Global))
+    (u : Vec (List ℕ) Global)
     (row : List (List ℕ)) (v : List ℕ) → AreMade b file made → IsFirst b x → x ≡ name.Parity w j p
     → all ≡ made.parities.items
     → u ≡ get_or all j u → row ≡ u.items → v ≡ get_or row p v → v ≡ cell b file x
@@ -124,7 +135,8 @@ parity_is {b = b} {file = file} x w j p all u row v m f e is at same read =
     ∙ (ap (λ k. parity b.chunk file (get_or b.points p 0) k j) (sym h.0) ∙ ap (cell b file) (sym e))))
 
 -- the parities of one stripe more
-pub parities_more : (b : BookFacts) (file : List ℕ) (j : ℕ) (all next : List (Vec (List ℕ) Global)) (v : Vec (List ℕ) Global)
+pub parities_more : (b : BookFacts) (file : List ℕ) (j : ℕ) (all next : List (Vec (List ℕ) Global))
+    (v : Vec (List ℕ) Global)
     → rows_of all ≡ map (parities_of b file) (range_with_len 0 j) → next ≡ all ++ v ∷ []
     → v.items ≡ parities_of b file j
     → rows_of next ≡ map (parities_of b file) (range_with_len 0 (j + 1))
@@ -134,10 +146,12 @@ parities_more b file j all next v so_far is made =
     ∙ sym (map-range_with_len_more (parities_of b file) 0 j j (omega arith)))))
 
 -- the parities that an encoding by the family makes
-pub parities_made : (b : BookFacts) (code : Code) (file : List ℕ) (j : ℕ) (points : List ℕ) (size width : ℕ) (all : List (List ℕ))
+pub parities_made : (b : BookFacts) (code : Code) (file : List ℕ) (j : ℕ) (points : List ℕ) (size width : ℕ)
+    (all : List (List ℕ))
     → IsOfFamily code.shape code.points b → points ≡ code.points → size ≡ b.chunk → width ≡ width_at code.shape.stages 0
     → all ≡ map (λ point. parity size file point width j) points → all ≡ parities_of b file j
 parities_made b code file j points size width all of ps is wide made = made
     ∙ (ap (λ l. map (λ point. parity size file point width j) l) (ps ∙ sym of.points)
     ∙ (ap (λ n. map (λ point. parity n file point width j) b.points) is
-    ∙ ap (λ w. map (λ point. parity b.chunk file point w j) b.points) (wide ∙ ap (λ s. width_at s.stages 0) (sym of.shape))))
+    ∙ ap (λ w. map (λ point. parity b.chunk file point w j) b.points)
+    (wide ∙ ap (λ s. width_at s.stages 0) (sym of.shape))))

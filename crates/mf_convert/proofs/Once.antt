@@ -84,8 +84,10 @@ after_pin gs p cs = begin true ∷ pin Work gs p ∷ cs
 
 created_once : (f : Facts) (ms ns : List ℕ) (ss ts : List State) {a b c : Actor} {w : World}
     → length ss ≡ length (first_names f) → length ts ≡ length (first_names f) → a.whole ≡ Some w
-    → Does (after_pin ms Absent (probes (first_names f) ss ++ (brings (first_names f) ss ++ (publish 1 ∷ end ∷ [])))) a b
-    → Does (after_pin ns Absent (probes (first_names f) ts ++ (brings (first_names f) ts ++ (publish 1 ∷ end ∷ [])))) a c
+    → Does (after_pin ms Absent (probes (first_names f) ss ++ (brings (first_names f) ss ++ (publish 1 ∷ end ∷ [])))) a
+    b
+    → Does (after_pin ns Absent (probes (first_names f) ts ++ (brings (first_names f) ts ++ (publish 1 ∷ end ∷ [])))) a
+    c
     → b ≡ c
 created_once f ms ns ss ts {a = a} m n e x y =
     let k = pins e x y in

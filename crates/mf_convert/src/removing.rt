@@ -6,8 +6,8 @@ use crate::change::Change;
 use mf_vault::{Access, Pinned, Slot};
 
 /// Removes the file, whose name isn't used again. It is Absent where the file isn't created,
-/// Removed where it was removed before, and Busy where another actor has the right to build. It takes no
-/// memory.
+/// Removed where it was removed before, and Busy where another actor has the right to build. It
+/// takes no memory.
 pub fn remove<A: Access>(access: &mut A) -> Change
     requires idle { IsIdle (A.actor access.old) }
     ensures licence { Removes result (A.actor access.old) (A.actor access.new) }

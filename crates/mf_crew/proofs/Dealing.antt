@@ -1,7 +1,8 @@
 -- The steps of the loops over files and clients.
 use Rattle.std.proofs.Common.{◌≡◌, ℕ, zero, suc, ◌+◌, ◌-◌, ◌/◌, ◌<◌, ◌≤◌, List, [], ◌∷◌, ◌++◌, length, map, get_or, set}
 use Rattle.std.proofs.Common.{take, drop, All, Ok, Err, refl, sym, ap, ◌∙◌, subst, arith, append_assoc, inl, inr}
-use Rattle.std.proofs.lemmas.List.{length-map, length-take, length-drop, map-append, map-set, get_or_default, get_or-drop}
+use Rattle.std.proofs.lemmas.List.{length-map, length-take, length-drop, map-append, map-set, get_or_default}
+use Rattle.std.proofs.lemmas.List.{get_or-drop}
 use Rattle.std.proofs.lemmas.Bool.{cases_lt}
 use Rattle.std.proofs.lemmas.List.{append-nil, take_all}
 use Rattle.std.proofs.lemmas.List.Elements.{All-rest}
@@ -266,7 +267,8 @@ deals_more shareds behind seats kept jobs now job so_far of new number actors pu
       (at i d (omega (arith, within, ap length pushed, Rattle.std.proofs.lemmas.List.length_push jobs job)));
 }
   where
-    at : (i : ℕ) (d : Job _) → i < length jobs + 1 → IsJob (facts_of_all shareds) (i + 1) (get_or (jobs ++ job ∷ []) i d)
+    at : (i : ℕ) (d : Job _) → i < length jobs + 1
+        → IsJob (facts_of_all shareds) (i + 1) (get_or (jobs ++ job ∷ []) i d)
     at i d low = elim (cases_lt i (length jobs)) [
       | inl before ↦
           subst (IsJob (facts_of_all shareds) (i + 1))

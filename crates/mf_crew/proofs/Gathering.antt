@@ -1,5 +1,6 @@
 -- From what came of all clients to the phase.
-use Rattle.std.proofs.Common.{◌≡◌, ℕ, zero, suc, ◌+◌, ◌<◌, ◌≤◌, Bool, true, false, List, [], ◌∷◌, ◌++◌, length, map, get_or}
+use Rattle.std.proofs.Common.{◌≡◌, ℕ, zero, suc, ◌+◌, ◌<◌, ◌≤◌, Bool, true, false, List, [], ◌∷◌, ◌++◌, length, map}
+use Rattle.std.proofs.Common.{get_or}
 use Rattle.std.proofs.Common.{drop, take, Option, Some, All, IfOk, Ok, Err, refl, sym, ap, ◌∙◌, subst, arith, cond}
 use Rattle.std.specs.Prelude.{flat_map, slice_get}
 use Rattle.std.specs.List.{AllZip}
@@ -35,7 +36,8 @@ use Rattle.mf_crew.specs.Alone.{first_actors}
 use Rattle.mf_crew.specs.Files.{HasPhase, RestsBy, AllRestBy}
 use Rattle.mf_crew.specs.Live.{Ran, AllRan, RunsLive, AreLeft, share_of, new_view, new_actor, untabled, views_of}
 use Rattle.mf_crew.specs.Live.{join_each, join_all}
-use Rattle.mf_crew.specs.Parts.{AreOf, AreNew, AreSeatsOf, IsSeatOf, IsReport, AreAllOf, NoneFailed, Came, done_in, take_in}
+use Rattle.mf_crew.specs.Parts.{AreOf, AreNew, AreSeatsOf, IsSeatOf, IsReport, AreAllOf, NoneFailed, Came, done_in}
+use Rattle.mf_crew.specs.Parts.{take_in}
 use Rattle.mf_crew.specs.Parts.{AreJobs, IsRunnable, actors_in, facts_of_all, views_in}
 use Rattle.mf_crew.proofs.Zips.{zip_length, zip_map}
 use Rattle.mf_crew.proofs.Sharing.{halved}

@@ -1,5 +1,6 @@
 -- No call of an access changes its actor's share.
-use Rattle.std.proofs.Common.{◌≡◌, ℕ, ◌+◌, Bool, true, false, List, [], ◌∷◌, map, Option, Some, None, refl, sym, ap, ◌∙◌, arith}
+use Rattle.std.proofs.Common.{◌≡◌, ℕ, ◌+◌, Bool, true, false, List, [], ◌∷◌, map, Option, Some, None, refl, sym, ap}
+use Rattle.std.proofs.Common.{◌∙◌, arith}
 use Rattle.std.proofs.lemmas.Option.{get_or_from_slice_get}
 use Rattle.std.proofs.Math.Seq.{map-set_same}
 use Rattle.mf_machine.specs.declared.answer.Closed.TheVariants as closing
@@ -135,10 +136,12 @@ sweep_shares : (policy : Option (List ℕ)) (o : Outcome) (parts : List Part) (b
 sweep_shares None o parts before after x = absurd x
 sweep_shares (Some thresholds) o parts before after x = swept_shares thresholds o parts before after x
 
-acts_shares : (policy : Option (List ℕ)) (line : ℕ) (x : Act) (o : Outcome) (parts : List Part) (before after : List Actor)
+acts_shares : (policy : Option (List ℕ)) (line : ℕ) (x : Act) (o : Outcome) (parts : List Part)
+    (before after : List Actor)
     → Acts policy line x o parts before after → shares after ≡ shares before
 acts_shares policy line (act.Create file) o parts before after x = on_shares (act.Create file) o file before after x.1
-acts_shares policy line (act.Read file away) o parts before after x = on_shares (act.Read file away) o file before after x.1
+acts_shares policy line (act.Read file away) o parts before after x = on_shares (act.Read file away) o file before after
+    x.1
 acts_shares policy line (act.Repair file away) o parts before after x =
     on_shares (act.Repair file away) o file before after x.1
 acts_shares policy line (act.Convert file away stop) o parts before after x =

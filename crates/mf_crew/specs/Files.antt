@@ -25,9 +25,9 @@ book_of s n line = record {
   bytes = length (bytes_in line.content);
 }
 
--- The script's file of this number and this line, as it may rest before this phase or behind it: with what its book lays
--- out, and the bytes of its line; its lose lines are the first ones of those up to the end of the phase; and it was
--- created `now` or before.
+-- The script's file of this number and this line, as it may rest before this phase or behind it: with what its book
+-- lays out, and the bytes of its line; its lose lines are the first ones of those up to the end of the phase; and it
+-- was created `now` or before.
 pub record RestsBy (s : Script) (phase now n : ℕ) (line : FileLine) (r : Resting) : Type 0 where
   pub book : r.book ≡ book_of s n line
   pub bytes : r.bytes ≡ bytes_in line.content

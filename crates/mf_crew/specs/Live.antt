@@ -73,8 +73,8 @@ abbrev pub untabled : Facts → Facts
 untabled f = record f { table = [] }
 
 -- The phase has several clients. Their commands, done so, led from new actors of the files before; and the files behind
--- are those that are left where an actor of each file which did nothing took in the actors of all clients: all that they
--- made accounts for these files, and each answer that they met has its cause.
+-- are those that are left where an actor of each file which did nothing took in the actors of all clients: all that
+-- they made accounts for these files, and each answer that they met has its cause.
 pub record RunsLive (s : Script) (phase now : ℕ) (before : List Resting) (done : List Done) (after : List Resting)
     : Type 0 where
   pub many : 1 < length (clients_of s phase)

@@ -12,7 +12,8 @@ ghost use Rattle.mf_client.specs.Runs.{IsSmall};
 ghost use Rattle.mf_crew.specs.Files.{HasPhase, AllRestBy};
 ghost use Rattle.mf_crew.specs.Live.{new_view, new_actor, share_of, untabled, join_each, AreLeft};
 ghost use Rattle.mf_crew.specs.Live.{RunsLive};
-ghost use Rattle.mf_crew.specs.Parts.{AreOf, AreNew, AreJobs, AreAllOf, NoneFailed, done_in, take_in};
+ghost use Rattle.mf_crew.specs.Parts.{AreOf, AreNew, AreJobs, AreAllOf, NoneFailed, done_in};
+ghost use Rattle.mf_crew.specs.Parts.{take_in};
 ghost use Rattle.mf_crew.specs.Parts.{facts_of_all, views_in};
 
 use crate::jobs::{Job, Report, run_jobs};

@@ -18,10 +18,10 @@ use mf_kernel::{Chunk, Memory, add_scaled, combine_all};
 use mf_matrix::Matrix;
 use std::alloc::Global;
 
-/// The erased chunks of a stripe, in order, by its plan: with them the pieces are the one data list that agrees with
-/// what was handed in. `pieces` has None exactly at the plan's erased places, and may end before the plan's width where
-/// the stripe is short. `parities` are the plan's, in order. Each chunk has `chunk` bytes. The only error is want of
-/// memory.
+/// The erased chunks of a stripe, in order, by its plan: with them the pieces are the one data list
+/// that agrees with what was handed in. `pieces` has None exactly at the plan's erased places, and
+/// may end before the plan's width where the stripe is short. `parities` are the plan's, in order.
+/// Each chunk has `chunk` bytes. The only error is want of memory.
 pub fn apply(
     alloc: Global,
     plan: &DecodePlan,
@@ -48,8 +48,8 @@ pub fn apply(
     combine_all(alloc, &rows, &sources, chunk as usize)
 }
 
-/// Fills `out` with the bytes from `start` on of the e-th erased chunk. What is handed in is as for `apply`; the
-/// chunks need to reach as far as `out` does.
+/// Fills `out` with the bytes from `start` on of the e-th erased chunk. What is handed in is as for
+/// `apply`; the chunks need to reach as far as `out` does.
 pub fn apply_block(
     plan: &DecodePlan,
     e: u32,
@@ -124,7 +124,8 @@ fn add_piece(factor: u8, piece: &Option<Chunk>, start: usize, out: &mut [u8])
     ensures length { length out.new ≡ length out.old }
     ensures sum { (x : ℕ) → x < length out.old
         → slice_index out.new x ≡ bit_xor (slice_index out.old x)
-        (times factor (unwrap_or (option_map (λ chunk. slice_index chunk (start + x)) piece.now) 0)) }
+        (times factor
+        (unwrap_or (option_map (λ chunk. slice_index chunk (start + x)) piece.now) 0)) }
     ensures bytes { IfSome piece.now (λ chunk. All (λ b. b < 256) chunk) }
 {
     if let Some(chunk) = piece {
@@ -134,8 +135,8 @@ fn add_piece(factor: u8, piece: &Option<Chunk>, start: usize, out: &mut [u8])
     }
 }
 
-// The weight of piece `t`: the sum, over the parities, of the entry of row e times the parity's point to the power of
-// `t`.
+// The weight of piece `t`: the sum, over the parities, of the entry of row e times the parity's
+// point to the power of `t`.
 fn weight(inverse: &Matrix, e: u32, points: &[u8], t: u32) -> u8
     requires row { e < inverse.now.rows }
     requires entries { inverse.now.columns ≡ length points.now }

@@ -1,4 +1,5 @@
-//! Decodings by every set of erased data and had parities of two families, and of lengths around a block's end.
+//! Decodings by every set of erased data and had parities of two families, and of lengths around a
+//! block's end.
 ghost use Rattle.std.specs.Prelude.{◌≡◌, ◌≤◌, length, All, IfSome};
 ghost use Rattle.std.specs.Bool.{OnTrue};
 

@@ -27,8 +27,8 @@ pub enum Gathered {
     Memory,
 }
 
-/// All data of a stripe of `count` pieces, each of `chunk` bytes. It asks for each piece once, ascending, and then for
-/// parities, ascending, until as many have been had as pieces are missing.
+/// All data of a stripe of `count` pieces, each of `chunk` bytes. It asks for each piece once,
+/// ascending, and then for parities, ascending, until as many have been had as pieces are missing.
 pub fn gather<P: Pieces>(
     alloc: Global,
     pieces: &mut P,
@@ -87,8 +87,8 @@ fn try_gather<P: Pieces>(
     Ok(Some(restored(alloc, points, width, chunk, found, erased.as_slice(), &had)?))
 }
 
-/// The places of the pieces that are missing, ascending: what `plan` and `apply` ask to be erased. The only error is
-/// want of memory.
+/// The places of the pieces that are missing, ascending: what `plan` and `apply` ask to be erased.
+/// The only error is want of memory.
 pub fn gaps_of(alloc: Global, found: &[Option<Chunk>]) -> Result<Vec<u32>, Memory>
     requires { length found.now < 2 ^ 32 }
     ensures { IfOk result (λ erased. erased.items ≡ gaps_from 0 found.now) }
@@ -102,7 +102,8 @@ pub fn gaps_of(alloc: Global, found: &[Option<Chunk>]) -> Result<Vec<u32>, Memor
     Ok(erased)
 }
 
-// The pieces, with those that were not found made from the parities. Where all were found there is no plan.
+// The pieces, with those that were not found made from the parities. Where all were found there is
+// no plan.
 fn restored(
     alloc: Global,
     points: &[u8],

@@ -24,8 +24,8 @@ pub struct Asked {
 
 /// Where the pieces and the parities of one stripe are asked for.
 pub trait Pieces {
-    /// What it answers from: the length of its chunks, the points of its parities, the number of its pieces, and the
-    /// data list with which its answers agree, where there is one.
+    /// What it answers from: the length of its chunks, the points of its parities, the number of
+    /// its pieces, and the data list with which its answers agree, where there is one.
     ghost stripe: { Self → Stripe };
     /// The kind of what it was made with.
     ghost Made: { Type 0 } = { Unit {0} };
@@ -36,7 +36,8 @@ pub trait Pieces {
     /// The place of its error, where there was one.
     ghost failure: { Self → Option Place };
 
-    /// Piece `t` of the data, or `None` where there is none to be had. The only error is want of memory.
+    /// Piece `t` of the data, or `None` where there is none to be had. The only error is want of
+    /// memory.
     fn piece(&mut self, t: u32) -> Result<Option<Chunk>, Memory>
         requires exists { t < (Self.stripe self.old).count }
         requires unbroken { Self.failure self.old ≡ None }
@@ -58,7 +59,8 @@ pub trait Pieces {
         ensures stays { (Self.stripe self.new ≡ Self.stripe self.old)
             × (Self.made self.new ≡ Self.made self.old) };
 
-    /// The data list, where there is one, has as many chunks as the stripe has pieces, each of the stripe's length.
+    /// The data list, where there is one, has as many chunks as the stripe has pieces, each of the
+    /// stripe's length.
     ghost shape: { (s : Self) → IfSome (Self.stripe s).pieces
         (IsDataList (Self.stripe s).count (Self.stripe s).size) };
 }

@@ -1,4 +1,5 @@
-//! Plans: which data of a stripe is erased, which parities are had in its stead, and the inverse that leads back.
+//! Plans: which data of a stripe is erased, which parities are had in its stead, and the inverse
+//! that leads back.
 ghost use Rattle.std.specs.Prelude.{◌≡◌, ℕ, ◌<◌, ◌≤◌, length, map, slice_index};
 ghost use Rattle.std.specs.Prelude.{OnOk, IfOk, IfErr};
 ghost use Rattle.mf_matrix.specs.Tables.{HasInverse};
@@ -11,8 +12,8 @@ use mf_matrix::{KernelList, Matrix, NoInverse, invert};
 use std::alloc::{AllocError, Global};
 use std::marker::Model;
 
-/// How the erased data of a stripe is had again: a plan serves each stripe of its width that has lost the same data and
-/// has the same parities.
+/// How the erased data of a stripe is had again: a plan serves each stripe of its width that has
+/// lost the same data and has the same parities.
 #[derive(Debug, Drop)]
 pub struct DecodePlan {
     pub(crate) points: Vec<u8>,
@@ -75,8 +76,9 @@ impl From<NoInverse> for NoPlan {
     }
 }
 
-/// The plan by which the data at the erased places of a stripe of this width is had again from these parities and the
-/// other data. It has none exactly where the matrix of the parities' points has no inverse, or memory ran out.
+/// The plan by which the data at the erased places of a stripe of this width is had again from
+/// these parities and the other data. It has none exactly where the matrix of the parities' points
+/// has no inverse, or memory ran out.
 pub fn plan(
     alloc: Global,
     points: &[u8],

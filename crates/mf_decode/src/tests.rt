@@ -9,8 +9,9 @@ use std::alloc::{AllocError, Global};
 use std::process::Abort;
 use std::test::Fail;
 
-// A stripe of four pieces of `size` bytes, each of one letter again and again, and their parity by the point 1. Bit t
-// of `lost` says that piece t is lost, and bit 31 that the parity is. For what is lost there is no chunk.
+// A stripe of four pieces of `size` bytes, each of one letter again and again, and their parity by
+// the point 1. Bit t of `lost` says that piece t is lost, and bit 31 that the parity is. For what
+// is lost there is no chunk.
 #[derive(Drop)]
 struct Letters {
     alloc: Global,

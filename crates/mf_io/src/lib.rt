@@ -45,8 +45,8 @@ pub trait Source {
     // A count that rises where a read fails.
     ghost faults: { Self → ℕ };
 
-    /// Puts the next bytes in front of `buf` and answers their number. For a `buf` that isn't empty, 0
-    /// says that the input has ended. A read that fails takes no byte.
+    /// Puts the next bytes in front of `buf` and answers their number. For a `buf` that isn't
+    /// empty, 0 says that the input has ended. A read that fails takes no byte.
     fn read(&mut self, buf: &mut [u8]) -> Result<usize, Failed>
         ensures bound { ReadsAtMost result buf.new }
         ensures bytes { ReadConsumes (left self.old) (left self.new) result buf.new }
@@ -61,8 +61,8 @@ pub trait Sink {
     // A count that rises where a write fails.
     ghost faults: { Self → ℕ };
 
-    /// Appends the first bytes of `piece` and answers their number, which is above 0 for a piece that
-    /// isn't empty. A write that fails appends nothing.
+    /// Appends the first bytes of `piece` and answers their number, which is above 0 for a piece
+    /// that isn't empty. A write that fails appends nothing.
     fn write(&mut self, piece: &[u8]) -> Result<usize, Failed>
         ensures bound { WritesAtMost result piece.now }
         ensures progress { IfOk result (λ n. 0 < length piece.now → 0 < n) }

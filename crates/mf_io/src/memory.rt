@@ -1,4 +1,5 @@
-//! A source and a sink in memory, which give and take pieces of a chosen size and fail at chosen calls.
+//! A source and a sink in memory, which give and take pieces of a chosen size and fail at chosen
+//! calls.
 ghost use Rattle.std.specs.Prelude.{◌≡◌, ◌<◌, ◌≤◌, ◌↔◌, [], min, length, drop, Contains, IsErr};
 ghost use Rattle.std.specs.Prelude.{IfOk, IsTrue, OnErr, Some};
 ghost use Rattle.std.specs.Io.{ReadsAtMost, WritesAtMost};
@@ -43,8 +44,8 @@ fn is_listed(calls: &[u32], number: u64) -> bool
 }
 
 impl MemorySource {
-    /// A source of these bytes that gives at most `piece` of them per call. The calls whose numbers,
-    /// from 1, stand in `fail` fail, and no others.
+    /// A source of these bytes that gives at most `piece` of them per call. The calls whose
+    /// numbers, from 1, stand in `fail` fail, and no others.
     pub fn new(bytes: Vec<u8>, piece: usize, fail: Vec<u32>) -> Self
         requires { 0 < piece }
         ensures { result ≡ record {
@@ -123,8 +124,8 @@ impl Model for MemorySink {
 }
 
 impl MemorySink {
-    /// An empty sink that takes at most `piece` bytes per call. The calls whose numbers, from 1, stand in
-    /// `fail` fail, and so does one for whose bytes there is no memory.
+    /// An empty sink that takes at most `piece` bytes per call. The calls whose numbers, from 1,
+    /// stand in `fail` fail, and so does one for whose bytes there is no memory.
     pub fn new(alloc: Global, piece: usize, fail: Vec<u32>) -> Self
         requires { 0 < piece }
         ensures { result ≡ record {

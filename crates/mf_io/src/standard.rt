@@ -4,8 +4,8 @@ ghost use Rattle.std.specs.Prelude.{◌≡◌, ◌≤◌, IfOk};
 use super::{Failed, Sink, Source};
 use std::io::{Read, Write};
 
-/// Reads from a std reader. It tells what is left where the reader does. Its count rises at each error
-/// of the reader, up to the greatest u64.
+/// Reads from a std reader. It tells what is left where the reader does. Its count rises at each
+/// error of the reader, up to the greatest u64.
 #[derive(Drop)]
 pub struct StdSource<T> {
     inner: T,

@@ -41,8 +41,9 @@ impl From<AllocError> for ReadAll {
 /// Reads a source to its end, which has to come within `limit` bytes.
 ///
 /// # Errors
-/// `Fault` where a read failed, and then the source's count has risen; `TooLong` exactly where one byte more
-/// than the limit was read, and no read is made after that; `Memory` where memory ran out.
+/// `Fault` where a read failed, and then the source's count has risen; `TooLong` exactly where one
+/// byte more than the limit was read, and no read is made after that; `Memory` where memory ran
+/// out.
 pub fn read_all<S: Source>(alloc: Global, source: &mut S, limit: usize) -> Result<Vec<u8>, ReadAll>
     ensures within { IfOk result (λ text. vec_len text ≤ limit) }
     ensures bytes { IfOk result (λ text.

@@ -1,8 +1,11 @@
 -- Sums of chunks by rows of coefficients, lane by lane.
-use Rattle.std.proofs.Common.{◌≡◌, ℕ, ◌+◌, ◌-◌, ◌*◌, ◌<◌, ◌≤◌, List, [], ◌∷◌, ◌++◌, length, get_or, replicate, bit_xor, refl, sym, ap, ap₂, ◌∙◌, arith, ⊎_elim, Fits, w8}
+use Rattle.std.proofs.Common.{◌≡◌, ℕ, ◌+◌, ◌-◌, ◌*◌, ◌<◌, ◌≤◌, List, [], ◌∷◌, ◌++◌, length, get_or, replicate, bit_xor}
+use Rattle.std.proofs.Common.{refl, sym, ap, ap₂, ◌∙◌, arith, ⊎_elim, Fits, w8}
 use Rattle.std.proofs.lemmas.Bool.{cases_lt}
-use Rattle.std.proofs.lemmas.List.{length-append, length-replicate, get_or-replicate, get_or_append_left, get_or-append_right, get_or_default}
-use Rattle.std.proofs.lemmas.Simd.{get_or-zip2, length-zip2, length-chunk, get_or-chunk, get_or-put_chunk_at, get_or-put_chunk_below}
+use Rattle.std.proofs.lemmas.List.{length-append, length-replicate, get_or-replicate, get_or_append_left}
+use Rattle.std.proofs.lemmas.List.{get_or-append_right, get_or_default}
+use Rattle.std.proofs.lemmas.Simd.{get_or-zip2, length-zip2, length-chunk, get_or-chunk, get_or-put_chunk_at}
+use Rattle.std.proofs.lemmas.Simd.{get_or-put_chunk_below}
 use lib.Lanes.{zip2, chunk, put_chunk, Each1}
 use Rattle.mf_code.specs.Field.{times}
 use Rattle.mf_code.specs.Rows.{column, added_scaled}
@@ -28,64 +31,82 @@ sums_none row at chunks = record {
 
 -- one more chunk
 pub sums_more : (row sums after lanes : List ℕ) (factor at t : ℕ) (chunks : List (List ℕ)) (piece bytes : List ℕ)
-    → AreSums row t at chunks sums → t < length chunks → piece ≡ get_or chunks t piece → bytes ≡ piece → at + 32 ≤ length bytes → factor ≡ get_or row t 0
+    → AreSums row t at chunks sums → t < length chunks → piece ≡ get_or chunks t piece → bytes ≡ piece
+    → at + 32 ≤ length bytes → factor ≡ get_or row t 0
     → lanes ≡ chunk at 32 bytes → after ≡ added_scaled sums factor lanes → AreSums row (t + 1) at chunks after
-sums_more row sums after lanes factor at t chunks piece bytes so_far lt is same within factor_is lanes_are are = record {
-  long =
-      ap length (are ∙ ap (added_scaled sums factor) lanes_are)
-      ∙ length-zip2 (λ y z. bit_xor y (times factor z)) sums (chunk at 32 bytes) (so_far.long ∙ sym (length-chunk at 32 bytes within)) ∙ so_far.long;
-  are = λ x below.
-      let byte : get_or (chunk at 32 bytes) x 0 ≡ get_or (column (at + x) chunks) t 0 =
-      get_or-chunk at 32 bytes x 0 below ∙ ap (λ (ys : List ℕ). get_or ys (at + x) 0) same ∙ sym (column_at (at + x) chunks t piece lt is) in
-      ap (λ (ys : List ℕ). get_or ys x 0) (are ∙ ap (added_scaled sums factor) lanes_are)
-      ∙ get_or-zip2 (λ y z. bit_xor y (times factor z)) sums (chunk at 32 bytes) x 0 0 0 (omega (arith, so_far.long)) (omega (arith, length-chunk at 32 bytes within))
-      ∙ ap₂ bit_xor (so_far.are x below) (ap₂ times factor_is byte)
-      ∙ sym (sum_below-more t (λ i. times (get_or row i 0) (get_or (column (at + x) chunks) i 0)));
-}
+sums_more row sums after lanes factor at t chunks piece bytes so_far lt is same within factor_is lanes_are are =
+    record {
+      long =
+          ap length (are ∙ ap (added_scaled sums factor) lanes_are)
+          ∙ length-zip2 (λ y z. bit_xor y (times factor z)) sums (chunk at 32 bytes)
+          (so_far.long ∙ sym (length-chunk at 32 bytes within)) ∙ so_far.long;
+      are = λ x below.
+          let byte : get_or (chunk at 32 bytes) x 0 ≡ get_or (column (at + x) chunks) t 0 =
+          get_or-chunk at 32 bytes x 0 below ∙ ap (λ (ys : List ℕ). get_or ys (at + x) 0) same
+          ∙ sym (column_at (at + x) chunks t piece lt is) in
+          ap (λ (ys : List ℕ). get_or ys x 0) (are ∙ ap (added_scaled sums factor) lanes_are)
+          ∙ get_or-zip2 (λ y z. bit_xor y (times factor z)) sums (chunk at 32 bytes) x 0 0 0 (omega (arith, so_far.long))
+          (omega (arith, length-chunk at 32 bytes within))
+          ∙ ap₂ bit_xor (so_far.are x below) (ap₂ times factor_is byte)
+          ∙ sym (sum_below-more t (λ i. times (get_or row i 0) (get_or (column (at + x) chunks) i 0)));
+    }
 
 -- the same sums by another row that begins alike
-pub sums_alike : (row other : List ℕ) (t at : ℕ) (chunks : List (List ℕ)) (lanes : List ℕ) → AreSums row t at chunks lanes
+pub sums_alike : (row other : List ℕ) (t at : ℕ) (chunks : List (List ℕ)) (lanes : List ℕ)
+    → AreSums row t at chunks lanes
     → ((i : ℕ) → i < t → get_or row i 0 ≡ get_or other i 0) → AreSums other t at chunks lanes
 sums_alike row other t at chunks lanes sums alike = record {
   long = sums.long;
   are = λ x lt.
       sums.are x lt
-      ∙ sum_below-same t (λ i. times (get_or row i 0) (get_or (column (at + x) chunks) i 0)) (λ i. times (get_or other i 0) (get_or (column (at + x) chunks) i 0))
+      ∙ sum_below-same t (λ i. times (get_or row i 0) (get_or (column (at + x) chunks) i 0))
+      (λ i. times (get_or other i 0) (get_or (column (at + x) chunks) i 0))
       (λ i below. ap (λ (f : ℕ). times f (get_or (column (at + x) chunks) i 0)) (alike i below));
 }
 
 -- over all chunks it is the sum by the row
-pub row_sum_all : (row : List ℕ) (t x : ℕ) (chunks : List (List ℕ)) → t ≡ length chunks → row_sum row t (column x chunks) ≡ dot row (column x chunks)
+pub row_sum_all : (row : List ℕ) (t x : ℕ) (chunks : List (List ℕ)) → t ≡ length chunks
+    → row_sum row t (column x chunks) ≡ dot row (column x chunks)
 row_sum_all row t x chunks is = ap (λ (n : ℕ). row_sum row n (column x chunks)) (is ∙ sym (length-column x chunks))
 
-pub sums_all : (row : List ℕ) (t at : ℕ) (chunks : List (List ℕ)) (lanes : List ℕ) → AreSums row t at chunks lanes → t ≡ length chunks
+pub sums_all : (row : List ℕ) (t at : ℕ) (chunks : List (List ℕ)) (lanes : List ℕ) → AreSums row t at chunks lanes
+    → t ≡ length chunks
     → (x : ℕ) → x < 32 → get_or lanes x 0 ≡ dot row (column (at + x) chunks)
 sums_all row t at chunks lanes sums is x lt = sums.are x lt ∙ row_sum_all row t (at + x) chunks is
 
 -- one more byte
 pub byte_more : (row : List ℕ) (sum after product factor byte t x : ℕ) (chunks : List (List ℕ)) (piece bytes : List ℕ)
-    → t < length chunks → piece ≡ get_or chunks t piece → bytes ≡ piece → factor ≡ get_or row t 0 → byte ≡ get_or bytes x 0
-    → product ≡ times factor byte → after ≡ bit_xor sum product → sum ≡ row_sum row t (column x chunks) → after ≡ row_sum row (t + 1) (column x chunks)
+    → t < length chunks → piece ≡ get_or chunks t piece → bytes ≡ piece → factor ≡ get_or row t 0
+    → byte ≡ get_or bytes x 0
+    → product ≡ times factor byte → after ≡ bit_xor sum product → sum ≡ row_sum row t (column x chunks)
+    → after ≡ row_sum row (t + 1) (column x chunks)
 byte_more row sum after product factor byte t x chunks piece bytes lt is same factor_is byte_is product_is are so_far =
     are ∙ ap₂ bit_xor so_far
-    (product_is ∙ ap₂ times factor_is (byte_is ∙ ap (λ (ys : List ℕ). get_or ys x 0) same ∙ sym (column_at x chunks t piece lt is)))
+    (product_is ∙ ap₂ times factor_is
+    (byte_is ∙ ap (λ (ys : List ℕ). get_or ys x 0) same ∙ sym (column_at x chunks t piece lt is)))
     ∙ sym (sum_below-more t (λ i. times (get_or row i 0) (get_or (column x chunks) i 0)))
 
 -- the coefficients of a row: its ones, and then its factors
 pub value_one : (ones : ℕ) (factors : List ℕ) (i : ℕ) → i < ones → get_or (replicate ones 1 ++ factors) i 0 ≡ 1
 value_one ones factors i lt =
-    get_or_append_left (replicate ones 1) factors 0 i (omega (arith, length-replicate {A = ℕ} ones 1)) ∙ get_or-replicate {A = ℕ} ones i 1 0 lt
+    get_or_append_left (replicate ones 1) factors 0 i (omega (arith, length-replicate {A = ℕ} ones 1))
+    ∙ get_or-replicate {A = ℕ} ones i 1 0 lt
 
-pub value_factor : (ones : ℕ) (factors : List ℕ) (i : ℕ) → ones ≤ i → get_or (replicate ones 1 ++ factors) i 0 ≡ get_or factors (i - ones) 0
-value_factor ones factors i le = get_or-append_right (replicate ones 1) factors ones i 0 (length-replicate {A = ℕ} ones 1) le
+pub value_factor : (ones : ℕ) (factors : List ℕ) (i : ℕ) → ones ≤ i
+    → get_or (replicate ones 1 ++ factors) i 0 ≡ get_or factors (i - ones) 0
+value_factor ones factors i le = get_or-append_right (replicate ones 1) factors ones i 0
+    (length-replicate {A = ℕ} ones 1) le
 
-pub value_read : (ones : ℕ) (factors : List ℕ) (t factor : ℕ) → ones ≤ t → t - ones < length factors → factor ≡ get_or factors (t - ones) factor
+pub value_read : (ones : ℕ) (factors : List ℕ) (t factor : ℕ) → ones ≤ t → t - ones < length factors
+    → factor ≡ get_or factors (t - ones) factor
     → factor ≡ get_or (replicate ones 1 ++ factors) t 0
-value_read ones factors t factor le lt is = is ∙ get_or_default factors (t - ones) factor 0 lt ∙ sym (value_factor ones factors t le)
+value_read ones factors t factor le lt is = is ∙ get_or_default factors (t - ones) factor 0 lt
+    ∙ sym (value_factor ones factors t le)
 
 pub length-values : (ones : ℕ) (factors : List ℕ) → length (replicate ones 1 ++ factors) ≡ ones + length factors
 length-values ones factors =
-    length-append {A = ℕ} (replicate ones 1) factors ∙ ap (λ (n : ℕ). n + length factors) (length-replicate {A = ℕ} ones 1)
+    length-append {A = ℕ} (replicate ones 1) factors
+    ∙ ap (λ (n : ℕ). n + length factors) (length-replicate {A = ℕ} ones 1)
 
 -- adding lanes is adding 1 times them
 pub added_once : (sums lanes : List ℕ) → Each1 (Fits w8) lanes → zip2 bit_xor sums lanes ≡ added_scaled sums 1 lanes
@@ -95,9 +116,11 @@ added_once (y ∷ ys) (x ∷ xs) fits =
     ap₂ (λ (a : ℕ) (l : List ℕ). bit_xor y a ∷ l) (sym (one-times x fits.0.fits)) (added_once ys xs fits.1)
 
 -- a block more is made
-pub lanes_front : (v : ℕ → ℕ) (size block at : ℕ) (before after lanes : List ℕ) → length before ≡ size → at + 32 ≤ size → at ≤ block * 32
+pub lanes_front : (v : ℕ → ℕ) (size block at : ℕ) (before after lanes : List ℕ) → length before ≡ size → at + 32 ≤ size
+    → at ≤ block * 32
     → ((k : ℕ) → k < (block + 1) * 32 → k < size → k < at + 32) → length lanes ≡ 32 → after ≡ put_chunk at before lanes
-    → ((x : ℕ) → x < 32 → get_or lanes x 0 ≡ v (at + x)) → ((k : ℕ) → k < block * 32 → k < size → get_or before k 0 ≡ v k)
+    → ((x : ℕ) → x < 32 → get_or lanes x 0 ≡ v (at + x))
+    → ((k : ℕ) → k < block * 32 → k < size → get_or before k 0 ≡ v k)
     → (k : ℕ) → k < (block + 1) * 32 → k < size → get_or after k 0 ≡ v k
 lanes_front v size block at before after lanes same room joined reach long are made so_far k lt below =
     ap (λ (ys : List ℕ). get_or ys k 0) are

@@ -12,8 +12,8 @@ use crate::row::{Row, row_of};
 use mf_field::pow;
 use std::alloc::Global;
 
-/// The sum of chunks by a row of coefficients: each chunk times its coefficient, and `size` bytes of
-/// the sum of these. The only error is want of memory.
+/// The sum of chunks by a row of coefficients: each chunk times its coefficient, and `size` bytes
+/// of the sum of these. The only error is want of memory.
 pub fn combine(alloc: Global, row: &[u8], chunks: &[Chunk], size: usize) -> Result<Vec<u8>, Memory>
     requires coefficients { length row.now ≡ length chunks.now }
     requires columns { All (λ chunk. size ≤ length chunk) chunks.now }

@@ -1,5 +1,7 @@
-//! Sums of chunks by one, two or three rows at a time, kept in lanes while the chunks are gone through.
-ghost use Rattle.std.specs.Prelude.{◌≡◌, ◌+◌, ◌*◌, ◌<◌, ◌≤◌, ℕ, All, length, slice_index, replicate};
+//! Sums of chunks by one, two or three rows at a time, kept in lanes while the chunks are gone
+//! through.
+ghost use Rattle.std.specs.Prelude.{◌≡◌, ◌+◌, ◌*◌, ◌<◌, ◌≤◌, ℕ, All, length, slice_index};
+ghost use Rattle.std.specs.Prelude.{replicate};
 ghost use Rattle.mf_code.specs.Rows.{column, added_scaled};
 ghost use Rattle.mf_kernel.specs.Dots.{dot, combined};
 ghost use Rattle.mf_kernel.specs.Values.{values};

@@ -1,5 +1,6 @@
 -- Parts of lists, of ranges, and of lists that are joined.
-use Rattle.std.proofs.Common.{◌≡◌, ℕ, zero, suc, ◌+◌, ◌-◌, ◌≤◌, List, [], ◌∷◌, ◌++◌, length, take, drop, refl, ap, ap₂, ◌∙◌, sym, ⊎_elim, arith}
+use Rattle.std.proofs.Common.{◌≡◌, ℕ, zero, suc, ◌+◌, ◌-◌, ◌≤◌, List, [], ◌∷◌, ◌++◌, length, take, drop, refl, ap, ap₂}
+use Rattle.std.proofs.Common.{◌∙◌, sym, ⊎_elim, arith}
 use Rattle.std.proofs.lemmas.Bool.{cases_lt}
 use Rattle.std.proofs.lemmas.List.{length-take, take_all, take-append-le, take-append-drop, drop_all, append-nil}
 use Rattle.std.proofs.lemmas.List.Concat.{concat_is, flat_map-append}
@@ -24,7 +25,8 @@ take-add m k xs = ⊎_elim
     (λ within.
     let e : m + k - length (take m xs) ≡ k = omega (arith, length-take m xs) in
     ap (take (m + k)) (sym (take-append-drop m xs)) ∙ take-append (m + k) (take m xs) (drop m xs)
-    ∙ ap (λ zs. zs ++ take (m + k - length (take m xs)) (drop m xs)) (take_all (m + k) (take m xs) (omega (arith, length-take m xs)))
+    ∙ ap (λ zs. zs ++ take (m + k - length (take m xs)) (drop m xs))
+    (take_all (m + k) (take m xs) (omega (arith, length-take m xs)))
     ∙ ap (λ n. take m xs ++ take n (drop m xs)) e)
     (λ past.
     take_all (m + k) xs (omega arith) ∙ sym (take_all m xs past) ∙ sym (append-nil (take m xs))
@@ -44,4 +46,5 @@ take-range (suc k) a (suc n) h = ap (λ xs. a ∷ xs) (take-range k (a + 1) n (o
 
 -- joined lists of lists
 pub concat-append : (xs ys : List (List ℕ)) → concat (xs ++ ys) ≡ concat xs ++ concat ys
-concat-append xs ys = concat_is (xs ++ ys) ∙ flat_map-append (λ x. x) xs ys ∙ sym (ap₂ (λ a b. a ++ b) (concat_is xs) (concat_is ys))
+concat-append xs ys = concat_is (xs ++ ys) ∙ flat_map-append (λ x. x) xs ys
+    ∙ sym (ap₂ (λ a b. a ++ b) (concat_is xs) (concat_is ys))

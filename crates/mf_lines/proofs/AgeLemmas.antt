@@ -35,7 +35,8 @@ is_policy (n ∷ ns) e few =
     record {
       some = omega arith;
       first = eqb-true n 0 parts.0;
-      rise = λ k low. subst (λ next. slice_index (n ∷ ns) k < slice_index (n ∷ ns) next) (let next : suc k ≡ k + 1 = omega
+      rise = λ k low. subst (λ next. slice_index (n ∷ ns) k < slice_index (n ∷ ns) next)
+          (let next : suc k ≡ k + 1 = omega
           arith in next) (rises n ns k parts.1 (omega arith));
       few = few;
     }

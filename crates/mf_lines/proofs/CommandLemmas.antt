@@ -403,5 +403,6 @@ command_read so verb.Sweep ws form knows e =
     let same : act.Sweep ≡ b.value = let n = a.next in cc in
     let is : says.Command act.Sweep ≡ form = ap says.Command same ∙ let n = b.next in cc in
     as_it_is so (word.Command verb.Sweep) ws form e
-    (bare_read (names_in so.script.files) (word.Command verb.Sweep) ws n.value (says.Command act.Sweep) form n.is is refl
+    (bare_read (names_in so.script.files) (word.Command verb.Sweep) ws n.value (says.Command act.Sweep) form n.is is
+    refl
     refl tt tt)

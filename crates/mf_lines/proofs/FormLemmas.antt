@@ -84,8 +84,8 @@ form_read so last word.End ws form was follows e =
     (bare_read (names_in so.script.files) word.End ws a.value says.End form a.is (let n = a.next in cc) refl refl tt tt)
 
 -- What is known of a line that has a form: it is clean; it stands first, or behind a line that it may follow; its
--- file's name is new, or its command's file is there; a tick is small, and a sweep has a policy. Where the script has at
--- most 128 servers, it is the form's text, but for the order of a list of servers, and that text has the same form.
+-- file's name is new, or its command's file is there; a tick is small, and a sweep has a policy. Where the script has
+-- at most 128 servers, it is the form's text, but for the order of a list of servers, and that text has the same form.
 pub record LineIs (so : SoFar) (line : List ℕ) (form : Form) : Type 0 where
   pub clean : is_clean line ≡ true
   pub place : ((so.last ≡ None) × (form ≡ says.Morph))

@@ -1,5 +1,6 @@
 -- The parities of the narrow stripes that a file has, merged, are the parity of the wide stripe.
-use Rattle.std.proofs.Common.{◌≡◌, ℕ, ◌+◌, ◌-◌, ◌*◌, ◌<◌, ◌≤◌, min, List, [], length, get_or, All, sym, ap, ◌∙◌, arith, inl, inr, add-mul, mul-le-mul_right}
+use Rattle.std.proofs.Common.{◌≡◌, ℕ, ◌+◌, ◌-◌, ◌*◌, ◌<◌, ◌≤◌, min, List, [], length, get_or, All, sym, ap, ◌∙◌, arith}
+use Rattle.std.proofs.Common.{inl, inr, add-mul, mul-le-mul_right}
 use Rattle.std.proofs.lemmas.Bool.{cases_lt}
 use Rattle.std.proofs.lemmas.Grind.{div_ceil_times}
 use Rattle.std.proofs.lemmas.List.{get_or-map}
@@ -24,16 +25,19 @@ module _ (size : ℕ) (file : List ℕ) (point width factor j : ℕ) where
   unfolding narrow_parities
   length-narrow = length-map-range_with_len (parity size file point width) (j * factor) count
 
-  pub narrow_at : (b : ℕ) → b < count → get_or (narrow_parities size file point width factor j) b [] ≡ parity size file point width (j * factor + b)
+  pub narrow_at : (b : ℕ) → b < count
+      → get_or (narrow_parities size file point width factor j) b [] ≡ parity size file point width (j * factor + b)
   unfolding narrow_parities
   narrow_at b lt =
       get_or-map-range_with_len (parity size file point width) (j * factor) count b (j * factor + b) [] lt
       (let e : j * factor + b ≡ j * factor + b = omega arith in e)
 
   pub narrow_byte : (b x : ℕ) → b < count → x < size
-      → get_or (column x (narrow_parities size file point width factor j)) b 0 ≡ parity_byte size file point width (j * factor + b) x
+      → get_or (column x (narrow_parities size file point width factor j)) b 0
+      ≡ parity_byte size file point width (j * factor + b) x
   narrow_byte b x lt inside =
-      get_or-map (λ (xs : List ℕ). get_or xs x 0) (narrow_parities size file point width factor j) b [] 0 (omega (arith, length-narrow))
+      get_or-map (λ (xs : List ℕ). get_or xs x 0) (narrow_parities size file point width factor j) b [] 0
+      (omega (arith, length-narrow))
       ∙ ap (λ (xs : List ℕ). get_or xs x 0) (narrow_at b lt) ∙ parity_at size file point width (j * factor + b) x inside
 
   -- the narrow stripes that the file has hold all its chunks of the wide stripe
@@ -45,25 +49,37 @@ module _ (size : ℕ) (file : List ℕ) (point width factor j : ℕ) where
       omega (arith, (div_ceil_times m width some).0, mul-le-mul_right width all)
 
   pub merged_narrow : point < 256 → All (λ b. b < 256) file → 0 < width → (x : ℕ) → x < size
-      → merged_byte point width (narrow_parities size file point width factor j) x ≡ parity_byte size file point (factor * width) j x
+      → merged_byte point width (narrow_parities size file point width factor j) x
+      ≡ parity_byte size file point (factor * width) j x
   merged_narrow lp bytes some x inside =
       let byte : ℕ → ℕ = λ b. parity_byte size file point width (j * factor + b) x in
       let wide = add-mul j 1 factor in
-      let summed : merged_byte point width (narrow_parities size file point width factor j) x ≡ sum_below count (λ b. times (power point (b * width)) (byte b)) =
-      ap (λ (n : ℕ). sum_below n (λ b. times (power point (b * width)) (get_or (column x (narrow_parities size file point width factor j)) b 0))) length-narrow
-      ∙ sum_below-same count (λ b. times (power point (b * width)) (get_or (column x (narrow_parities size file point width factor j)) b 0))
-      (λ b. times (power point (b * width)) (byte b)) (λ b lt. ap (times (power point (b * width))) (narrow_byte b x lt inside)) in
+      let summed : merged_byte point width (narrow_parities size file point width factor j) x
+      ≡ sum_below count (λ b. times (power point (b * width)) (byte b)) =
+      ap (λ (n : ℕ). sum_below n
+      (λ b. times (power point (b * width))
+      (get_or (column x (narrow_parities size file point width factor j)) b 0))) length-narrow
+      ∙ sum_below-same count
+      (λ b. times (power point (b * width))
+      (get_or (column x (narrow_parities size file point width factor j)) b 0))
+      (λ b. times (power point (b * width)) (byte b))
+      (λ b lt. ap (times (power point (b * width))) (narrow_byte b x lt inside)) in
       summed ∙ elim (cases_lt count factor) [
         | inl less ↦
-            sym (parity_byte_merging_of size file point factor width j x count lp (byte_at file bytes) (omega arith) (narrow_reach some less))
+            sym (parity_byte_merging_of size file point factor width j x count lp (byte_at file bytes) (omega arith)
+            (narrow_reach some less))
         | inr all ↦
-            ap (λ (n : ℕ). sum_below n (λ b. times (power point (b * width)) (byte b))) (let e : count ≡ factor = omega arith in e)
+            ap (λ (n : ℕ). sum_below n (λ b. times (power point (b * width)) (byte b)))
+            (let e : count ≡ factor = omega arith in e)
             ∙ sym (parity_byte_merging size file point factor width j x lp (byte_at file bytes))
       ]
 
   -- the same as lists, where there is a narrow stripe
-  pub merged_list : point < 256 → All (λ b. b < 256) file → 0 < width → (parities : List (List ℕ)) → parities ≡ narrow_parities size file point width factor j
-      → 0 < length parities → list_of (first_length parities) (merged_byte point width parities) ≡ parity size file point (factor * width) j
+  pub merged_list : point < 256 → All (λ b. b < 256) file → 0 < width → (parities : List (List ℕ))
+      → parities ≡ narrow_parities size file point width factor j
+      → 0 < length parities
+      → list_of (first_length parities) (merged_byte point width parities)
+      ≡ parity size file point (factor * width) j
   unfolding parity
   merged_list lp bytes some parities are nonempty =
       let long : first_length parities ≡ size =
@@ -72,5 +88,6 @@ module _ (size : ℕ) (file : List ℕ) (point width factor j : ℕ) where
       ∙ length-parity size file point width (j * factor + 0) in
       ap (λ (n : ℕ). list_of n (merged_byte point width parities)) long
       ∙ ap (λ (ps : List (List ℕ)). list_of size (merged_byte point width ps)) are
-      ∙ list_of-same size (merged_byte point width (narrow_parities size file point width factor j)) (parity_byte size file point (factor * width) j)
+      ∙ list_of-same size (merged_byte point width (narrow_parities size file point width factor j))
+      (parity_byte size file point (factor * width) j)
       (λ x lt. merged_narrow lp bytes some x lt)

@@ -28,9 +28,9 @@ pub use mf_kernel::{Chunk, Memory};
 use mf_kernel::{add_scaled, combine, powers};
 use std::alloc::Global;
 
-/// The parity of a wide stripe with this point, from the parities with the same point of the stripes
-/// of `width` places that it holds: at most 64, of one length, in the order of their stripes, as far
-/// as the file has these. No data is read. The only error is want of memory.
+/// The parity of a wide stripe with this point, from the parities with the same point of the
+/// stripes of `width` places that it holds: at most 64, of one length, in the order of their
+/// stripes, as far as the file has these. No data is read. The only error is want of memory.
 pub fn merge(alloc: Global, point: u8, width: u32, parities: &[Chunk]) -> Result<Vec<u8>, Memory>
     requires some { 1 ≤ length parities.now }
     requires at_most { length parities.now ≤ 64 }

@@ -58,7 +58,8 @@ fn gather_from<A: Fetch, K: Begun>(
 }
 
 /// All data of stripe j of generation g, which is pinned: each chunk is asked for where the
-/// generation has it until it is had, and then parities until as many are had as chunks are missing.
+/// generation has it until it is had, and then parities until as many are had as chunks are
+/// missing.
 pub fn gather_stripe<A: Fetch>(
     alloc: Global,
     access: &mut A,

@@ -8,8 +8,8 @@ pub fn short_has_lost()
     ensures { ShortHasLost }
 {}
 
-/// Over an actor that is alone a read that had its memory has one outcome, and leaves one state, view
-/// and ledger.
+/// Over an actor that is alone a read that had its memory has one outcome, and leaves one state,
+/// view and ledger.
 pub fn read_has_one_result()
     ensures { OneResult }
 {}

@@ -30,7 +30,8 @@ io_float io = items_float (λ n. number (unsigned n)) (λ n. refl) (io_numbers i
 done_float : (names : List (List ℕ)) (done : Done) → has_float (done_json names done) ≡ false
 done_float names done =
     or_from (has_float (io_json done.io)) _ (io_float done.io)
-    (or_from (has_float (texts_json (map (part_text names) done.parts))) _ (texts_float (map (part_text names) done.parts))
+    (or_from (has_float (texts_json (map (part_text names) done.parts))) _
+    (texts_float (map (part_text names) done.parts))
     refl)
 
 pub report_float : (s : Script) (done : List Done) (files : List Resting) → has_float (report_json s done files) ≡ false

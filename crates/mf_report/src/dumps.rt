@@ -144,7 +144,8 @@ fn push_dump_of(
     file: u32,
 ) -> Result<(), AllocError>
     ensures { OnOk result (out.new.items ≡ out.old.items
-        ++ flat_map ended (lines_if (name_at (names_in names.now) file) (slice_get files.now file))) }
+        ++ flat_map ended
+        (lines_if (name_at (names_in names.now) file) (slice_get files.now file))) }
 {
     match files.get(file as usize) {
         Some(plain) => push_dump(out, name_of(names, file), plain),

@@ -17,7 +17,8 @@ ghost use Rattle.mf_report.specs.Outcomes.{outcome_text};
 ghost use Rattle.mf_report.specs.Commands.{command_text, part_text};
 ghost use Rattle.mf_report.specs.Dumps.{head_text, generation_text, chunk_text};
 ghost use Rattle.mf_report.specs.Dumps.{dump_lines, lines_if, dumps_lines};
-ghost use Rattle.mf_report.specs.Json.{texts_json, numbers_json, io_json, done_json, report_json, json_text};
+ghost use Rattle.mf_report.specs.Json.{texts_json, numbers_json, io_json, done_json, report_json};
+ghost use Rattle.mf_report.specs.Json.{json_text};
 
 use crate::commands::{push_command, push_part};
 use crate::counts::numbers_of;
@@ -193,7 +194,8 @@ fn add_generations(alloc: Global, list: &mut Vec<Value>, plain: &Plain) -> Resul
 // Adds the lines of the names.
 fn add_chunks(alloc: Global, list: &mut Vec<Value>, plain: &Plain) -> Result<(), AllocError>
     ensures { OnOk result (map view list.new.items ≡ map view list.old.items
-        ++ map (λ n. string (chunk_text plain.now n)) (range_with_len 0 (count_of plain.now.book))) }
+        ++ map (λ n. string (chunk_text plain.now n))
+        (range_with_len 0 (count_of plain.now.book))) }
 {
     for n in 0..plain.book().count() {
         list.push(chunk_value(alloc, plain, n)?)?;

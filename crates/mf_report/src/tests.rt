@@ -14,8 +14,9 @@ use mf_vault::{Io, Name, Rest};
 use std::alloc::Global;
 use std::test::Fail;
 
-const TEXT: &[u8] =
-    b"morph 1\nservers 6\nchunk 1\npoints 1 2\nstage 2 2 1\nstage 4 2 0\nfile a text abcd\nphase\nclient\ncreate a\nread a\nend\n";
+const TEXT: &[u8] = b"\
+        morph 1\nservers 6\nchunk 1\npoints 1 2\nstage 2 2 1\nstage 4 2 0\nfile a text abcd\n\
+        phase\nclient\ncreate a\nread a\nend\n";
 
 /// The SHA-256 of `abcd`.
 const DIGEST: [u8; 32] = [
@@ -26,8 +27,10 @@ const DIGEST: [u8; 32] = [
 const READ: &str =
     "bytes 4 gen 0 from 4 sha256 88d4266fd4e6338d13b845fcf289579d209c897823b9217da3e161936f031589";
 
-const REPORT: &str =
-    "report 1\n1.1.1 create a: created io 0 0 0 0 12 12 0\n1.1.2 sweep: swept 1 io 0 0 4 0 2 7 0\n1.1.2 a converted 0 to 1 made 2\n1.1.2 a busy\ntotal io 0 0 4 0 14 19 0\nconverts io 0 0 4 0 2 7 0\nend\n";
+const REPORT: &str = "\
+        report 1\n1.1.1 create a: created io 0 0 0 0 12 12 0\n\
+        1.1.2 sweep: swept 1 io 0 0 4 0 2 7 0\n1.1.2 a converted 0 to 1 made 2\n1.1.2 a busy\n\
+        total io 0 0 4 0 14 19 0\nconverts io 0 0 4 0 2 7 0\nend\n";
 
 const CHANGES: [(Change, &str); 12] = [
     (Change::Created, "created"),

@@ -108,8 +108,8 @@ pub fn report<K: Sink>(
         (Appends (K.written sink.old) (K.written sink.new)
         (written_text json script.now done.now files.now)) }
     ensures count { OnOk result (K.faults sink.new ≡ K.faults sink.old) }
-    ensures fault { IfErr result (λ fault. Leaves fault (written_text json script.now done.now files.now)
-        (K.written sink.old) (K.written sink.new) (K.faults sink.old) (K.faults sink.new)) }
+    ensures fault { IfErr result (λ fault. Leaves fault
+        (written_text json script.now done.now files.now) (K.written sink.old) (K.written sink.new) (K.faults sink.old) (K.faults sink.new)) }
 {
     let Ok(text) = written_bytes(alloc, script, done, files, json) else {
         return Err(ReportFault::Memory);

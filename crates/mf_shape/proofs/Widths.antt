@@ -8,13 +8,17 @@ use Rattle.mf_shape.specs.Chain.{IsChain}
 use Rattle.mf_shape.specs.Stages.{no_stage, stage_at, width_at, copied_width, max_width, max_copied_width}
 
 -- one stage more
-pub max_width-more : (s : List Stage) (i : ℕ) → i < length s → max_width (take (i + 1) s) ≡ max (max_width (take i s)) (width_at s i)
+pub max_width-more : (s : List Stage) (i : ℕ) → i < length s
+    → max_width (take (i + 1) s) ≡ max (max_width (take i s)) (width_at s i)
 max_width-more s i h =
-    ap max_width (take_more s i no_stage h) ∙ max_push max_width (λ x. x.width) refl (λ _ _. refl) (take i s) (stage_at s i)
+    ap max_width (take_more s i no_stage h)
+    ∙ max_push max_width (λ x. x.width) refl (λ _ _. refl) (take i s) (stage_at s i)
 
-pub max_copied_width-more : (s : List Stage) (i : ℕ) → i < length s → max_copied_width (take (i + 1) s) ≡ max (max_copied_width (take i s)) (copied_width (stage_at s i))
+pub max_copied_width-more : (s : List Stage) (i : ℕ) → i < length s
+    → max_copied_width (take (i + 1) s) ≡ max (max_copied_width (take i s)) (copied_width (stage_at s i))
 max_copied_width-more s i h =
-    ap max_copied_width (take_more s i no_stage h) ∙ max_push max_copied_width copied_width refl (λ _ _. refl) (take i s) (stage_at s i)
+    ap max_copied_width (take_more s i no_stage h)
+    ∙ max_push max_copied_width copied_width refl (λ _ _. refl) (take i s) (stage_at s i)
 
 -- no stage is wider than the greatest width
 pub width_at-le-max_width : (s : List Stage) (g : ℕ) → g < length s → width_at s g ≤ max_width s
@@ -28,7 +32,8 @@ copied_width-le-max s g h = max_bounds max_copied_width copied_width refl (λ _ 
 pub max_width-le : (s : List Stage) (m : ℕ) → ((g : ℕ) → g < length s → width_at s g ≤ m) → max_width s ≤ m
 max_width-le s m h = max_least max_width (λ x. x.width) refl (λ _ _. refl) s no_stage m h
 
-pub max_copied_width-le : (s : List Stage) (m : ℕ) → ((g : ℕ) → g < length s → copied_width (stage_at s g) ≤ m) → max_copied_width s ≤ m
+pub max_copied_width-le : (s : List Stage) (m : ℕ) → ((g : ℕ) → g < length s → copied_width (stage_at s g) ≤ m)
+    → max_copied_width s ≤ m
 max_copied_width-le s m h = max_least max_copied_width copied_width refl (λ _ _. refl) s no_stage m h
 
 -- a stage's copies are of its width, if it has any

@@ -40,8 +40,8 @@ pub const MAX_COPIES: u32 = 2;
 /// The greatest number of servers.
 pub const MAX_SERVERS: u32 = 128;
 
-/// One stage of a file's life: stripes of `width` chunks with `parities` parities each, and `copies`
-/// further copies of each chunk.
+/// One stage of a file's life: stripes of `width` chunks with `parities` parities each, and
+/// `copies` further copies of each chunk.
 #[derive(Clone, Copy, Debug, PartialEq, Eq)]
 pub struct Stage {
     pub width: u32,

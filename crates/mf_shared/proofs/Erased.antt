@@ -114,10 +114,11 @@ module _ (f : File) (k : Opening) (s : State) (v : View) (unbound : IsUnbound v)
       put_once = r.accounted.put_once;
       dropped_once = r.accounted.dropped_once;
       closed = r.accounted.closed;
-      unborn = λ n l. let t = r.accounted.unborn n l in let a = no_birth v unbound.free n in let b = no_birth u refl n in (
-        λ h. t.0 (⊎_elim (λ e. inl e) (λ q. absurd (omega arith)) h),
-        λ h. ⊎_elim (λ e. inl e) (λ q. absurd (omega arith)) (t.1 h),
-      );
+      unborn = λ n l. let t = r.accounted.unborn n l in let a = no_birth v unbound.free n in let b = no_birth u refl n
+          in (
+            λ h. t.0 (⊎_elim (λ e. inl e) (λ q. absurd (omega arith)) h),
+            λ h. ⊎_elim (λ e. inl e) (λ q. absurd (omega arith)) (t.1 h),
+          );
       dropped = r.accounted.dropped;
       lost = λ n l ne h. let b = no_retake u refl n in
           r.accounted.lost n l ne (⊎_elim (λ e. inl e) (λ q. absurd (omega arith)) h);

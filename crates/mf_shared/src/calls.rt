@@ -29,7 +29,8 @@ impl<'a, R> SharedAccess<'a, R> {
         n
     }
 
-    // Tries to pin the published generation. None is answered where it was closed when the pin came.
+    // Tries to pin the published generation. None is answered where it was closed when the pin
+    // came.
     fn try_pin(&mut self, slot: Slot) -> Option<Pinned>
         requires { MayPin slot (told_by self.old) }
         ensures tries { TriesPin slot result (told_by self.old) (told_by self.new) }

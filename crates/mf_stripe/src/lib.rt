@@ -100,7 +100,8 @@ mod tests {
     use super::*;
     use std::test::Fail;
 
-    // The parities by the points 1 and 2 of chunks of `size` bytes, each of one letter again and again.
+    // The parities by the points 1 and 2 of chunks of `size` bytes, each of one letter again and
+    // again.
     fn encoded(alloc: Global, letters: &[u8], width: u32, size: u32) -> Result<Vec<Vec<u8>>, Memory>
         requires { length letters.now ≤ width }
     {

@@ -1,7 +1,11 @@
 -- Bytes in hexadecimal: what a word spells is what was written, and the other way round.
-use Rattle.std.proofs.Common.{◌≡◌, ℕ, ◌+◌, ◌-◌, ◌*◌, ◌/◌, ◌%◌, ◌<◌, ◌≤◌, true, false, not, eqb, ltb, leb, ◌&&◌, List, [], ◌∷◌, ◌++◌, length, get_or, take, drop, Some, None, refl, sym, ap, ◌∙◌, inl, inr, arith}
+use Rattle.std.proofs.Common.{◌≡◌, ℕ, ◌+◌, ◌-◌, ◌*◌, ◌/◌, ◌%◌, ◌<◌, ◌≤◌, true, false, not, eqb, ltb, leb, ◌&&◌, List}
+use Rattle.std.proofs.Common.{[], ◌∷◌, ◌++◌, length, get_or, take, drop, Some, None, refl, sym, ap, ◌∙◌, inl, inr}
+use Rattle.std.proofs.Common.{arith}
 use Rattle.std.specs.List.{list_all, AllByRecursion}
-use Rattle.std.proofs.lemmas.Bool.{cond-true, cond-false, cases_Bool, cases_lt, and_parts, and_from, or_cases, lt-ltb, le-ltb, ltb-true, both_ways, or_right, le-leb, lt-leb, leb-true, eq-eqb, eqb-true, ne_eqb, not_from_false, false_from_ne_true}
+use Rattle.std.proofs.lemmas.Bool.{cond-true, cond-false, cases_Bool, cases_lt, and_parts, and_from, or_cases, lt-ltb}
+use Rattle.std.proofs.lemmas.Bool.{le-ltb, ltb-true, both_ways, or_right, le-leb, lt-leb, leb-true, eq-eqb, eqb-true}
+use Rattle.std.proofs.lemmas.Bool.{ne_eqb, not_from_false, false_from_ne_true}
 use Rattle.std.proofs.lemmas.List.{take_more, take_all, append_assoc, append-nil}
 use Rattle.mf_text.specs.Lines.{is_printable, is_clean}
 use Rattle.mf_text.proofs.WordLemmas.{is_word}
@@ -44,8 +48,12 @@ hex_digit-is v lt =
           let above : leb (87 + v) 57 ≡ false = lt-leb (87 + v) 57 (omega arith) in
           let low : leb 97 (87 + v) ≡ true = le-leb 97 (87 + v) (omega arith) in
           let high : leb (87 + v) 102 ≡ true = le-leb (87 + v) 102 (omega arith) in
-          let value : hex_digit_value (87 + v) ≡ 87 + v - 87 = cond-false _ _ _ above in
-          (ap is_hex_digit is ∙ or_right (leb 48 (87 + v) && leb (87 + v) 57) _ (and_from _ _ low high), ap hex_digit_value is ∙ value ∙ omega arith)
+          let value : hex_digit_value (87 + v) ≡ 87 + v - 87 = cond-false _ _ _ above in (
+            ap is_hex_digit is
+                ∙ or_right (leb 48 (87 + v) && leb (87 + v) 57) _ (and_from _ _ low high),
+            ap hex_digit_value is ∙ value
+                ∙ omega arith,
+          )
     ]
 
 -- ---- words
@@ -66,7 +74,8 @@ pub is_hex_word-true : (word : List ℕ) → IsHexWord word → is_hex_word word
 unfolding is_hex_word
 is_hex_word-true word h =
     and_from (ltb 0 (length word) && eqb (length word % 2) 0) (list_all is_hex_digit word)
-    (and_from (ltb 0 (length word)) (eqb (length word % 2) 0) (lt-ltb 0 (length word) h.some) (eq-eqb (length word % 2) 0 h.even)) h.digits
+    (and_from (ltb 0 (length word)) (eqb (length word % 2) 0) (lt-ltb 0 (length word) h.some)
+    (eq-eqb (length word % 2) 0 h.even)) h.digits
 
 pub hex_of-some : (word : List ℕ) → IsHexWord word → hex_of word ≡ Some (hex_value word)
 unfolding hex_of
@@ -80,7 +89,8 @@ pub IsHexWord-at : (word bytes : List ℕ) → hex_of word ≡ Some bytes → Is
 unfolding hex_of
 IsHexWord-at word bytes e =
     elim (cases_Bool (is_hex_word word)) [
-      | inl holds ↦ let at = sym (cond-true _ _ _ holds) ∙ e in let is : bytes ≡ hex_value word = cc in (IsHexWord-from word holds, is)
+      | inl holds ↦ let at = sym (cond-true _ _ _ holds)
+          ∙ e in let is : bytes ≡ hex_value word = cc in (IsHexWord-from word holds, is)
       | inr fails ↦ let at = sym (cond-false _ _ _ fails) ∙ e in absurd cc
     ]
 
@@ -96,12 +106,14 @@ unfolding hex_text
 hex_text-append [] b = refl
 hex_text-append (x ∷ a) b = ap (λ t. hex_digit (x / 16) ∷ hex_digit (x % 16) ∷ t) (hex_text-append a b)
 
-pub hex_text-digits : (bytes : List ℕ) → AllByRecursion (λ b. b < 256) bytes → list_all is_hex_digit (hex_text bytes) ≡ true
+pub hex_text-digits : (bytes : List ℕ) → AllByRecursion (λ b. b < 256) bytes
+    → list_all is_hex_digit (hex_text bytes) ≡ true
 unfolding hex_text
 hex_text-digits [] h = refl
 hex_text-digits (b ∷ bytes) h =
     let lt = h.0 in
-    and_from _ _ (hex_digit-is (b / 16) (omega arith)).0 (and_from _ _ (hex_digit-is (b % 16) (omega arith)).0 (hex_text-digits bytes h.1))
+    and_from _ _ (hex_digit-is (b / 16) (omega arith)).0
+    (and_from _ _ (hex_digit-is (b % 16) (omega arith)).0 (hex_text-digits bytes h.1))
 
 pub hex_value-hex_text : (bytes : List ℕ) → AllByRecursion (λ b. b < 256) bytes → hex_value (hex_text bytes) ≡ bytes
 unfolding hex_text hex_value
@@ -110,16 +122,20 @@ hex_value-hex_text (b ∷ bytes) h =
     let lt = h.0 in
     let high = (hex_digit-is (b / 16) (omega arith)).1 in
     let low = (hex_digit-is (b % 16) (omega arith)).1 in
-    let byte : 16 * hex_digit_value (hex_digit (b / 16)) + hex_digit_value (hex_digit (b % 16)) ≡ b = rw (high, low) (omega arith) in
+    let byte : 16 * hex_digit_value (hex_digit (b / 16)) + hex_digit_value (hex_digit (b % 16))
+    ≡ b = rw (high, low) (omega arith) in
     rw (byte, hex_value-hex_text bytes h.1) refl
 
 -- the spelling of bytes spells them
-pub hex_of-hex_text : (bytes : List ℕ) → AllByRecursion (λ b. b < 256) bytes → 0 < length bytes → hex_of (hex_text bytes) ≡ Some bytes
+pub hex_of-hex_text : (bytes : List ℕ) → AllByRecursion (λ b. b < 256) bytes → 0 < length bytes
+    → hex_of (hex_text bytes) ≡ Some bytes
 hex_of-hex_text bytes h some =
     let long = length-hex_text bytes in
-    hex_of-some (hex_text bytes) (record { some = omega arith; even = omega arith; digits = hex_text-digits bytes h }) ∙ ap Some (hex_value-hex_text bytes h)
+    hex_of-some (hex_text bytes) (record { some = omega arith; even = omega arith; digits = hex_text-digits bytes h })
+    ∙ ap Some (hex_value-hex_text bytes h)
 
-hex_text-value : (word : List ℕ) → length word % 2 ≡ 0 → list_all is_hex_digit word ≡ true → hex_text (hex_value word) ≡ word
+hex_text-value : (word : List ℕ) → length word % 2 ≡ 0 → list_all is_hex_digit word ≡ true
+    → hex_text (hex_value word) ≡ word
 unfolding hex_text hex_value
 hex_text-value [] even digits = refl
 hex_text-value (c ∷ []) even digits = absurd (omega arith)
@@ -150,7 +166,9 @@ pub record Pairs (word bytes rest : List ℕ) : Type 0 where
 pub Pairs-start : (word : List ℕ) → length word % 2 ≡ 0 → Pairs word [] word
 Pairs-start word even = record { value = refl; digits = refl; even = even }
 
-pub Pairs-more : (word bytes rest : List ℕ) (b : ℕ) → Pairs word bytes rest → 2 ≤ length rest → (is_hex_digit (get_or rest 0 0) && is_hex_digit (get_or rest 1 0)) ≡ true → b ≡ 16 * hex_digit_value (get_or rest 0 0) + hex_digit_value (get_or rest 1 0)
+pub Pairs-more : (word bytes rest : List ℕ) (b : ℕ) → Pairs word bytes rest → 2 ≤ length rest
+    → (is_hex_digit (get_or rest 0 0) && is_hex_digit (get_or rest 1 0)) ≡ true
+    → b ≡ 16 * hex_digit_value (get_or rest 0 0) + hex_digit_value (get_or rest 1 0)
     → Pairs word (bytes ++ b ∷ []) (take (length rest - 2) (drop 2 rest))
 unfolding hex_value
 Pairs-more word bytes [] b so long digits is = absurd (omega arith)
@@ -161,12 +179,14 @@ Pairs-more word bytes (h ∷ l ∷ rest) b so long digits is =
     let whole : take (length (h ∷ l ∷ rest) - 2) rest ≡ rest = take_all _ rest (omega arith) in
     rw whole
     (record {
-      value = so.value ∙ ap (λ x. bytes ++ x ∷ hex_value rest) (sym is) ∙ sym (append_assoc bytes (b ∷ []) (hex_value rest));
+      value = so.value ∙ ap (λ x. bytes ++ x ∷ hex_value rest) (sym is)
+          ∙ sym (append_assoc bytes (b ∷ []) (hex_value rest));
       digits = so.digits ∙ rw both.0 (rw both.1 refl);
       even = omega arith;
     })
 
-pub Pairs-bad : (word bytes rest : List ℕ) → Pairs word bytes rest → 2 ≤ length rest → (is_hex_digit (get_or rest 0 0) && is_hex_digit (get_or rest 1 0)) ≡ false → hex_of word ≡ None
+pub Pairs-bad : (word bytes rest : List ℕ) → Pairs word bytes rest → 2 ≤ length rest
+    → (is_hex_digit (get_or rest 0 0) && is_hex_digit (get_or rest 1 0)) ≡ false → hex_of word ≡ None
 Pairs-bad word bytes [] so long bad = absurd (omega arith)
 Pairs-bad word bytes (c ∷ []) so long bad = absurd (omega arith)
 Pairs-bad word bytes (h ∷ l ∷ rest) so long bad =
@@ -175,17 +195,23 @@ Pairs-bad word bytes (h ∷ l ∷ rest) so long bad =
     let more = and_parts (is_hex_digit l) (list_all is_hex_digit rest) all.1 in
     both_ways _ bad (and_from _ _ all.0 more.0))
 
-pub Pairs-end : (word bytes rest : List ℕ) → Pairs word bytes rest → 0 < length word → length word % 2 ≡ 0 → length rest < 2 → hex_of word ≡ Some bytes
+pub Pairs-end : (word bytes rest : List ℕ) → Pairs word bytes rest → 0 < length word → length word % 2 ≡ 0
+    → length rest < 2 → hex_of word ≡ Some bytes
 unfolding hex_value
-Pairs-end word bytes [] so some even short = hex_of-some word (record { some = some; even = even; digits = so.digits }) ∙ ap Some (so.value ∙ append-nil bytes)
+Pairs-end word bytes [] so some even short = hex_of-some word (record { some = some; even = even; digits = so.digits })
+    ∙ ap Some (so.value ∙ append-nil bytes)
 Pairs-end word bytes (c ∷ rest) so some even short = let odd = so.even in absurd (omega arith)
 
 -- ---- the loop of `push_hex`
 
-pub hex_text_more : (old bytes : List ℕ) (i : ℕ) → i < length bytes → (old ++ hex_text (take i bytes)) ++ hex_digit (get_or bytes i 0 / 16) ∷ hex_digit (get_or bytes i 0 % 16) ∷ [] ≡ old ++ hex_text (take (i + 1) bytes)
+pub hex_text_more : (old bytes : List ℕ) (i : ℕ) → i < length bytes
+    → (old ++ hex_text (take i bytes)) ++ hex_digit (get_or bytes i 0 / 16) ∷ hex_digit (get_or bytes i 0 % 16) ∷ []
+    ≡ old ++ hex_text (take (i + 1) bytes)
 hex_text_more old bytes i lt =
     append_assoc old (hex_text (take i bytes)) _
-    ∙ ap (λ t. old ++ t) (sym (ap hex_text (take_more bytes i 0 lt) ∙ hex_text-append (take i bytes) (get_or bytes i 0 ∷ []) ∙ unfold hex_text in refl))
+    ∙ ap (λ t. old ++ t)
+    (sym (ap hex_text (take_more bytes i 0 lt) ∙ hex_text-append (take i bytes) (get_or bytes i 0 ∷ [])
+    ∙ unfold hex_text in refl))
 
 -- ---- the spelling of bytes in a line
 
@@ -198,15 +224,19 @@ digits_clean (c ∷ ds) e =
     let range = digit_range c parts.0 in
     let low = range.0 in
     let high = range.1 in (
-      and_from (leb 32 c && leb c 126) (list_all is_printable ds) (and_from (leb 32 c) (leb c 126) (le-leb 32 c (omega arith)) (le-leb c 126 (omega arith))) rest.0,
-      and_from (not (eqb c 32)) (list_all (λ b. not (eqb b 32)) ds) (not_from_false (eqb c 32) (ne_eqb c 32 (omega arith))) rest.1,
+      and_from (leb 32 c && leb c 126) (list_all is_printable ds)
+          (and_from (leb 32 c) (leb c 126) (le-leb 32 c (omega arith)) (le-leb c 126 (omega arith))) rest.0,
+      and_from (not (eqb c 32)) (list_all (λ b. not (eqb b 32)) ds)
+          (not_from_false (eqb c 32) (ne_eqb c 32 (omega arith))) rest.1,
     )
   where
     digit_range : (d : ℕ) → is_hex_digit d ≡ true → (48 ≤ d) × (d ≤ 102)
     digit_range d h =
         elim (or_cases (leb 48 d && leb d 57) (leb 97 d && leb d 102) h) [
-          | inl digit ↦ let p = and_parts (leb 48 d) (leb d 57) digit in let a = leb-true 48 d p.0 in let b = leb-true d 57 p.1 in (a, omega arith)
-          | inr letter ↦ let p = and_parts (leb 97 d) (leb d 102) letter in let a = leb-true 97 d p.0 in let b = leb-true d 102 p.1 in (omega arith, b)
+          | inl digit ↦ let p = and_parts (leb 48 d) (leb d 57) digit in let a = leb-true 48 d p.0
+              in let b = leb-true d 57 p.1 in (a, omega arith)
+          | inr letter ↦ let p = and_parts (leb 97 d) (leb d 102) letter in let a = leb-true 97 d p.0
+              in let b = leb-true d 102 p.1 in (omega arith, b)
         ]
 
 -- it is clean and one word
@@ -217,7 +247,8 @@ pub is_word-hex_text : (bytes : List ℕ) → AllByRecursion (λ b. b < 256) byt
 is_word-hex_text bytes h = (digits_clean (hex_text bytes) (hex_text-digits bytes h)).1
 
 -- what a word spells is a list of bytes
-pub hex_value-bytes : (word : List ℕ) → list_all is_hex_digit word ≡ true → AllByRecursion (λ b. b < 256) (hex_value word)
+pub hex_value-bytes : (word : List ℕ) → list_all is_hex_digit word ≡ true
+    → AllByRecursion (λ b. b < 256) (hex_value word)
 unfolding hex_value
 hex_value-bytes [] h = tt
 hex_value-bytes (c ∷ []) h = tt
@@ -228,5 +259,6 @@ hex_value-bytes (a ∷ b ∷ rest) h =
     let low = (hex_digit-value b second.0).1 in
     (omega arith, hex_value-bytes rest second.1)
 
-pub hex_text_injective : (a b : List ℕ) → AllByRecursion (λ x. x < 256) a → AllByRecursion (λ x. x < 256) b → hex_text a ≡ hex_text b → a ≡ b
+pub hex_text_injective : (a b : List ℕ) → AllByRecursion (λ x. x < 256) a → AllByRecursion (λ x. x < 256) b
+    → hex_text a ≡ hex_text b → a ≡ b
 hex_text_injective a b p q e = sym (hex_value-hex_text a p) ∙ ap hex_value e ∙ hex_value-hex_text b q

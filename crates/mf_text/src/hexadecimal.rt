@@ -70,8 +70,8 @@ fn byte_of(high: u8, low: u8) -> Option<u8>
 /// The bytes that a word spells, two lower-case digits each.
 ///
 /// # Errors
-/// `Shape` exactly where the word is empty, of odd length, or has a byte outside `0` to `9` and `a` to `f`;
-/// `Memory` where memory ran out.
+/// `Shape` exactly where the word is empty, of odd length, or has a byte outside `0` to `9` and `a`
+/// to `f`; `Memory` where memory ran out.
 pub fn hex_bytes(alloc: Global, word: &[u8]) -> Result<Vec<u8>, HexFault>
     ensures value { IfOk result (λ v. hex_of word.now ≡ Some v.items) }
     ensures spelled { IfOk result (λ v. word.now ≡ hex_text v.items) }
@@ -92,8 +92,8 @@ pub fn hex_bytes(alloc: Global, word: &[u8]) -> Result<Vec<u8>, HexFault>
     Ok(bytes)
 }
 
-/// Writes bytes at the end, two lower-case digits each. Fails only where memory runs out, and then `out` is
-/// as before.
+/// Writes bytes at the end, two lower-case digits each. Fails only where memory runs out, and then
+/// `out` is as before.
 pub fn push_hex(out: &mut Vec<u8>, bytes: &[u8]) -> Result<(), AllocError>
     ensures ok { OnOk result (out.new.items ≡ out.old.items ++ hex_text bytes.now) }
     ensures err { OnErr result (out.new.items ≡ out.old.items) }

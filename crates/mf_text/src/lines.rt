@@ -71,8 +71,8 @@ fn bad_byte(line: &[u8]) -> Option<usize>
     line.iter().position(|b| !(32..=126).contains(b))
 }
 
-/// How many bytes the first line of a text has, and how many it has with its end, for a caller that goes over the
-/// lines one by one. The text isn't empty.
+/// How many bytes the first line of a text has, and how many it has with its end, for a caller that
+/// goes over the lines one by one. The text isn't empty.
 pub fn first_line(text: &[u8]) -> (usize, usize)
     requires { 0 < length text.now }
     ensures progress { 0 < result.1 }
@@ -88,12 +88,12 @@ pub fn first_line(text: &[u8]) -> (usize, usize)
     }
 }
 
-/// The lines of a text of at most `TEXT_LIMIT` bytes, in order, without their ends. A line ends with LF or
-/// CR LF, and the last one may have no end.
+/// The lines of a text of at most `TEXT_LIMIT` bytes, in order, without their ends. A line ends
+/// with LF or CR LF, and the last one may have no end.
 ///
 /// # Errors
-/// `Text` exactly where a byte outside 32 to 126 is no part of a line's end, with the place of the first one;
-/// `Memory` where memory ran out.
+/// `Text` exactly where a byte outside 32 to 126 is no part of a line's end, with the place of the
+/// first one; `Memory` where memory ran out.
 pub fn split_lines(alloc: Global, text: &[u8]) -> Result<Vec<Span>, SplitFault>
     requires { length text.now ≤ TEXT_LIMIT }
     ensures spans { IfOk result (λ v. v.items ≡ line_spans text.now) }

@@ -14,8 +14,8 @@ fn space(line: &[u8]) -> Option<usize>
     line.iter().position(|b| *b == b' ')
 }
 
-/// The words of a line, in order. One space stands between each two, so two spaces make an empty word, and
-/// an empty line has one empty word. Fails only where memory runs out.
+/// The words of a line, in order. One space stands between each two, so two spaces make an empty
+/// word, and an empty line has one empty word. Fails only where memory runs out.
 pub fn split_words(alloc: Global, line: &[u8]) -> Result<Vec<Span>, AllocError>
     ensures spans { IfOk result (λ v. v.items ≡ word_spans line.now) }
     ensures words { IfOk result (λ v. map (piece line.now) v.items ≡ words_of line.now) }

@@ -84,7 +84,8 @@ report_answer json text s done files run =
     ]
 
 -- it was written whole
-pub ran : (json : Bool) (o : Output) (text : List ℕ) (s : Script) (done mine yours : List Done) (files theirs : List Resting)
+pub ran : (json : Bool) (o : Output) (text : List ℕ) (s : Script) (done mine yours : List Done)
+    (files theirs : List Resting)
     (status : Status)
     → IsRun text s done files → mine ≡ done → theirs ≡ files → yours ≡ done
     → Appends o.written o.written_now (written_text json s mine theirs)
@@ -116,7 +117,8 @@ ran json o text s done mine yours files theirs status run first rests second app
     ]
 
 -- a write of it failed
-pub ran_front : (json : Bool) (o : Output) (text : List ℕ) (s : Script) (done mine : List Done) (files theirs : List Resting)
+pub ran_front : (json : Bool) (o : Output) (text : List ℕ) (s : Script) (done mine : List Done)
+    (files theirs : List Resting)
     → IsRun text s done files → mine ≡ done → theirs ≡ files
     → Leaves fault.Sink (written_text json s mine theirs) o.written o.written_now o.faults o.faults_now
     → WritesFront o (task_words (Run json)) text

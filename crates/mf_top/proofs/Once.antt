@@ -265,17 +265,20 @@ alike words text m n x y none plain (by_check a) (by_run b) one other = absurd (
 alike words text m n x y none plain (by_check a) (by_check b) one other =
     let script : a.script ≡ b.script = scripts_are.script text a.script b.script a.read b.read in
     (a.status ∙ sym b.status, inl (a.is ∙ ap (λ (s : Script). accepted_text (main_of s).stages) script ∙ sym b.is))
-alike words text m n x y none plain (by_check a) (by_fault b) one other = absurd (no_script text a.script b.fault a.read b.refused)
+alike words text m n x y none plain (by_check a) (by_fault b) one other = absurd
+    (no_script text a.script b.fault a.read b.refused)
 alike words text m n x y none plain (by_check a) (by_words b) one other = absurd (b.asks.0 Check a.asks)
 alike words text m n x y none plain (by_fault a) (by_run b) one other =
     absurd (no_script text b.script a.fault b.run.script a.refused)
-alike words text m n x y none plain (by_fault a) (by_check b) one other = absurd (no_script text b.script a.fault b.read a.refused)
+alike words text m n x y none plain (by_fault a) (by_check b) one other = absurd
+    (no_script text b.script a.fault b.read a.refused)
 alike words text m n x y none plain (by_fault a) (by_fault b) one other = faults_alike words text m n x y a b
 alike words text m n x y none plain (by_fault a) (by_words b) one other = absurd (b.asks.0 a.task a.asks)
 alike words text m n x y none plain (by_words a) (by_run b) one other = absurd (a.asks.0 (Run b.json) b.asks)
 alike words text m n x y none plain (by_words a) (by_check b) one other = absurd (a.asks.0 Check b.asks)
 alike words text m n x y none plain (by_words a) (by_fault b) one other = absurd (a.asks.0 b.task b.asks)
-alike words text m n x y none plain (by_words a) (by_words b) one other = (a.status ∙ sym b.status, inl (a.is ∙ sym b.is))
+alike words text m n x y none plain (by_words a) (by_words b) one other =
+    (a.status ∙ sym b.status, inl (a.is ∙ sym b.is))
 alike words text m n x y none plain (by_run a) (by_seed b) one other = absurd (none b.seed b.small b.asks)
 alike words text m n x y none plain (by_check a) (by_seed b) one other = absurd (none b.seed b.small b.asks)
 alike words text m n x y none plain (by_fault a) (by_seed b) one other = absurd (none b.seed b.small b.asks)
@@ -316,7 +319,8 @@ run_ends_well json c ended.Refused text s h asks left is held =
     absurd (not_refused c.words h.text s h.writes.bytes (shown c.words h.text 1 h.writes.bytes h.writes.answer)
     (subst (λ t. IsScript t s) (sym same) is))
 run_ends_well json c ended.Words text s h asks left is held =
-    absurd (not_words (Run json) c.words h.text h.writes.bytes asks (shown c.words h.text 2 h.writes.bytes h.writes.answer))
+    absurd (not_words (Run json) c.words h.text h.writes.bytes asks
+    (shown c.words h.text 2 h.writes.bytes h.writes.answer))
 run_ends_well json c ended.SourceFault text s h asks left is held = absurd (held.reads h.1)
 run_ends_well json c ended.SinkFault text s h asks left is held = absurd (held.writes h.writes.failed)
 

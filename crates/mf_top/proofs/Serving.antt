@@ -1,5 +1,6 @@
 -- A read that names no server meets none that can't be reached.
-use Rattle.std.proofs.Common.{◌≡◌, ℕ, ◌<◌, ◌≤◌, ◌⊎◌, inl, inr, List, [], ◌∷◌, ◌++◌, length, map, refl, sym, ap, ◌∙◌, subst, arith}
+use Rattle.std.proofs.Common.{◌≡◌, ℕ, ◌<◌, ◌≤◌, ◌⊎◌, inl, inr, List, [], ◌∷◌, ◌++◌, length, map, refl, sym, ap, ◌∙◌}
+use Rattle.std.proofs.Common.{subst, arith}
 use Rattle.std.proofs.Common.{Option, Some, None}
 use Rattle.std.specs.Prelude.{slice_get}
 use Rattle.std.proofs.lemmas.Nat.Bits.{bit_at-zero}
@@ -49,7 +50,8 @@ behind_get f name (Asking.lost l) asks rest a next h =
     let more = next (did (get name (got.Lost l)) a) (record { whole = h.whole; fair = h.fair.1 }) in
     record { none = more.none; actor = more.actor; fair = more.fair }
 behind_get f name (Asking.away t) asks rest a next h =
-    absurd (in_none (server a.facts name) (subst (λ (set : Servers). IsIn set (server a.facts name)) h.whole h.fair.0.0))
+    absurd (in_none (server a.facts name)
+    (subst (λ (set : Servers). IsIn set (server a.facts name)) h.whole h.fair.0.0))
 
 behind : (f : Facts) (asks : List Ask) (rest : List Call) (a : Actor) → Fair (gets f asks ++ rest) a → Behind asks rest
 behind f [] rest a h = record { none = refl; actor = a; fair = h }

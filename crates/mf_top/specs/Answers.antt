@@ -56,10 +56,10 @@ pub record IsRun (text : List ℕ) (s : Script) (done : List Done) (files : List
   pub run : IsScriptRun s done files
   pub left : AreOfLines s files
 
--- The status of an answer, and its bytes. With `run` a script has the report of its run, as lines or as JSON: with status
--- 0 where no command lacked memory, and with 5 where one did. With `check` it has the line of its family. Any other text
--- has the line of its fault. With `seed` the script of the seed has the line that sums up its run, with status 0 or 5 as
--- with `run`, whatever the text is. Other words have the line that refuses them, whatever the text is.
+-- The status of an answer, and its bytes. With `run` a script has the report of its run, as lines or as JSON: with
+-- status 0 where no command lacked memory, and with 5 where one did. With `check` it has the line of its family. Any
+-- other text has the line of its fault. With `seed` the script of the seed has the line that sums up its run, with
+-- status 0 or 5 as with `run`, whatever the text is. Other words have the line that refuses them, whatever the text is.
 pub data IsAnswer : List (List ℕ) → List ℕ → ℕ → List ℕ → Type 0 where
   reported : {text : List ℕ} (json : Bool) (s : Script) (done : List Done) (files : List Resting)
       → IsRun text s done files → list_any lacks_memory done ≡ false

@@ -93,8 +93,8 @@ ReadsAreServed = (s : Script) (at : Place) (line file : ℕ) (done : Done) (befo
     → IsDone s at (record { line = line; act = act.Read file no_servers }) done before after
     → (a : Actor) × (slice_get before file ≡ Some a) × IsServed a.facts.book done.outcome
 
--- The line of name number n of a file with this book and these bytes, where it has the digest of the name's cell: of the
--- chunk that the plain encoding of the bytes gives it.
+-- The line of name number n of a file with this book and these bytes, where it has the digest of the name's cell: of
+-- the chunk that the plain encoding of the bytes gives it.
 abbrev pub cell_text : BookFacts → List ℕ → ℕ → List ℕ
 cell_text b bytes n =
     codes "chunk " ++ name_text (name_at b n) ++ codes " server" ++ spaced (server_of b (name_at b n)) ++ codes " "

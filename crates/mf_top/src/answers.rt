@@ -20,8 +20,8 @@ use std::alloc::Global;
 use std::sync::Wait;
 use std::thread::Threads;
 
-/// Runs the script that the text is, and writes the report, as JSON or as lines; or writes what is wrong with the text.
-/// Says with which status the call ends.
+/// Runs the script that the text is, and writes the report, as JSON or as lines; or writes what is
+/// wrong with the text. Says with which status the call ends.
 pub fn answer_to_run<R: Threads + Wait + Sync, K: Sink, T: Turnstile>(
     rt: &R,
     alloc: Global,

@@ -3,8 +3,8 @@
 ghost use Rattle.mf_top.specs.Laws.{OneAnswer, Completes, ReadsAreServed};
 ghost use Rattle.mf_top.specs.Laws.{DigestsAreOfCells, ConversionsReadNoData};
 
-/// Words that ask for no seed, and a text, have one status and one answer, where no command lacks memory and no phase has
-/// several clients.
+/// Words that ask for no seed, and a text, have one status and one answer, where no command lacks
+/// memory and no phase has several clients.
 pub fn one_answer()
     ensures { OneAnswer }
 {}

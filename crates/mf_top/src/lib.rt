@@ -80,10 +80,11 @@ enum Status {
 
 /// Does what the words ask for, which stand after the program's name, and answers the program's
 /// status. With the one word `run` it reads a script from the source, runs its phases one after the
-/// other over files that aren't created yet, and writes the report to the sink; with `run --json` it
-/// writes it as JSON. With the one word `check` it does as `morph_check`. With `seed N`, N a decimal
-/// below 2^64, it reads nothing, runs the script that is drawn from N, and writes one line that sums
-/// up the run. The turnstile is told of each client before each of its commands. The status is:
+/// other over files that aren't created yet, and writes the report to the sink; with `run --json`
+/// it writes it as JSON. With the one word `check` it does as `morph_check`. With `seed N`, N a
+/// decimal below 2^64, it reads nothing, runs the script that is drawn from N, and writes one line
+/// that sums up the run. The turnstile is told of each client before each of its commands. The
+/// status is:
 ///
 /// - 0: the script was read to its end, or drawn, and its report or line was written whole; no
 ///   command lacked memory;

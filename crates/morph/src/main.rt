@@ -1,5 +1,6 @@
-//! Morph: a block file store whose redundancy changes over a file's life. The program reads a script from standard
-//! input, runs it or checks its family of codes, and writes the report or the line of the check to standard output.
+//! Morph: a block file store whose redundancy changes over a file's life. The program reads a
+//! script from standard input, runs it or checks its family of codes, and writes the report or the
+//! line of the check to standard output.
 #![tactic(auto)]
 
 use mf_client::Free;
@@ -13,7 +14,8 @@ use std::rt::Env;
 /// The status for want of memory.
 const NO_MEMORY: u8 = 5;
 
-/// The words after the program's name; none where one of them isn't UTF-8, since the program has no such word.
+/// The words after the program's name; none where one of them isn't UTF-8, since the program has no
+/// such word.
 fn words_of(rt: &(impl Env + AllocGlobal)) -> Result<Vec<String>, AllocError> {
     let mut words = Vec::new(rt.alloc());
     let args = match std::env::args(rt) {

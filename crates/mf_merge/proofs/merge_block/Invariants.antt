@@ -7,4 +7,6 @@ use Rattle.mf_merge.proofs.merge_block.Given as goal
 
 abbrev pub invariant-loop-b : goal.invariant-loop-b
 invariant-loop-b l =
-    (x : ℕ) → x < length l.out → get_or l.out x 0 ≡ scaled_sum (λ b. power l.fn.point (b * l.fn.width)) l.b (column (l.fn.start + x) l.fn.parities)
+    (x : ℕ) → x < length l.out
+    → get_or l.out x 0
+    ≡ scaled_sum (λ b. power l.fn.point (b * l.fn.width)) l.b (column (l.fn.start + x) l.fn.parities)

@@ -10,13 +10,15 @@ use Rattle.mf_stripe.proofs.encode.Goals as goal
 
 pub combine_all-requires-clause-coefficients : goal.combine_all-requires-clause-coefficients
 combine_all-requires-clause-coefficients c =
-    powers_long (length c.args.pieces.now) c.args.points.now (rows c.deref.result.now) (ap rows c.deref.ensures.value ∙ c.in_ok-rows.ensures)
+    powers_long (length c.args.pieces.now) c.args.points.now (rows c.deref.result.now)
+    (ap rows c.deref.ensures.value ∙ c.in_ok-rows.ensures)
 
 pub returns-clause-sums : goal.returns-clause-sums
 returns-clause-sums c =
     let a = c.args in
     if_ok-map c.combine_all.result _ _
-    (λ lists are. combined_powers a.chunk a.points.now a.pieces.now (rows c.deref.result.now) (rows lists.items) (ap rows c.deref.ensures.value ∙ c.in_ok-rows.ensures) are)
+    (λ lists are. combined_powers a.chunk a.points.now a.pieces.now (rows c.deref.result.now) (rows lists.items)
+    (ap rows c.deref.ensures.value ∙ c.in_ok-rows.ensures) are)
     c.combine_all.ensures
 
 pub returns-clause-of_file : goal.returns-clause-of_file
@@ -24,7 +26,8 @@ returns-clause-of_file c = λ file j is.
     let a = c.args in
     if_ok-map c.combine_all.result _ _
     (λ lists are.
-    combined_powers a.chunk a.points.now a.pieces.now (rows c.deref.result.now) (rows lists.items) (ap rows c.deref.ensures.value ∙ c.in_ok-rows.ensures) are
+    combined_powers a.chunk a.points.now a.pieces.now (rows c.deref.result.now) (rows lists.items)
+    (ap rows c.deref.ensures.value ∙ c.in_ok-rows.ensures) are
     ∙ map-same (λ point. weighted_lists a.chunk point a.pieces.now) (λ point. parity a.chunk file point a.width j)
     (λ point. ap (weighted_lists a.chunk point) is ∙ weighted_lists_stripe a.chunk file point a.width j) a.points.now)
     c.combine_all.ensures

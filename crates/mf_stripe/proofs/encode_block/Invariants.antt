@@ -7,4 +7,5 @@ use Rattle.mf_stripe.proofs.encode_block.Given as goal
 
 abbrev pub invariant-loop-t : goal.invariant-loop-t
 invariant-loop-t l =
-    (x : ℕ) → x < length l.out → get_or l.out x 0 ≡ scaled_sum (power (get_or l.fn.points l.fn.p 0)) l.t (column (l.fn.start + x) l.fn.pieces)
+    (x : ℕ) → x < length l.out
+    → get_or l.out x 0 ≡ scaled_sum (power (get_or l.fn.points l.fn.p 0)) l.t (column (l.fn.start + x) l.fn.pieces)

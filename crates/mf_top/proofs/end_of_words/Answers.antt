@@ -26,7 +26,8 @@ returns-in-None g c =
       };
     } in
     let input = some_input left in
-    let answer = subst (IsAnswer words input.0 2) (sym c.words_line.ensures) (no_words (c.in-None.ensures, c.requires)) in
+    let answer = subst (IsAnswer words input.0 2) (sym c.words_line.ensures) (no_words (c.in-None.ensures, c.requires))
+    in
     answered call c.write_answer.result (record {
       text = input.0;
       input = input.1;

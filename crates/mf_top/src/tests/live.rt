@@ -1,5 +1,5 @@
-//! Two clients at once, in orders that a turnstile forces. A body that runs one after the other gives
-//! up in the first test, and in at least one of the two orders of the second.
+//! Two clients at once, in orders that a turnstile forces. A body that runs one after the other
+//! gives up in the first test, and in at least one of the two orders of the second.
 
 use crate::morph;
 use mf_client::Turnstile;

@@ -489,7 +489,8 @@ const A_SWEEP_REPORT: &str = "\
     2.1.1 sweep: swept 2 io 0 0 15 0 9 74 0\n\
     2.1.1 big converted 0 to 1 made 0\n\
     2.1.1 big converted 1 to 2 made 9\n\
-    2.1.2 read big: bytes 100000 gen 2 from 25 sha256 cd2df694e424bc7968cc37f47751019e5ca0cd1bdf2e479ea537c3a1c32ee1aa io 25 0 0 0 0 0 0\n\
+    2.1.2 read big: bytes 100000 gen 2 from 25 sha256 \
+    cd2df694e424bc7968cc37f47751019e5ca0cd1bdf2e479ea537c3a1c32ee1aa io 25 0 0 0 0 0 0\n\
     total io 25 0 15 0 74 139 0\n\
     converts io 0 0 15 0 9 74 0\n\
     end\n";

@@ -10,7 +10,9 @@ const SEEDS: [Case; 8] = [
         1,
         0,
         0,
-        "seed 0 commands 152 reads 79 lost 0 converted 7 repaired 173 report 11a1f8d43f4a35a5f005e183878b01fcf8d8b297a603f1f8fd094cbef4dcfa55\n",
+        "\
+            seed 0 commands 152 reads 79 lost 0 converted 7 repaired 173 report \
+            11a1f8d43f4a35a5f005e183878b01fcf8d8b297a603f1f8fd094cbef4dcfa55\n",
     ),
     Case(
         "seed 7",
@@ -18,7 +20,9 @@ const SEEDS: [Case; 8] = [
         1,
         0,
         0,
-        "seed 7 commands 152 reads 83 lost 0 converted 10 repaired 100 report b13950180d2bdfc5fc1528504cbde306158bae99b0604649b05670146a6df3ab\n",
+        "\
+            seed 7 commands 152 reads 83 lost 0 converted 10 repaired 100 report \
+            b13950180d2bdfc5fc1528504cbde306158bae99b0604649b05670146a6df3ab\n",
     ),
     Case(
         "seed 18446744073709551615",
@@ -26,7 +30,9 @@ const SEEDS: [Case; 8] = [
         1,
         0,
         0,
-        "seed 18446744073709551615 commands 152 reads 80 lost 0 converted 9 repaired 156 report 2bdc79c95a80d1cb865167b61f18a478b94127b4c3340ca155b56a7a27c3aa89\n",
+        "\
+            seed 18446744073709551615 commands 152 reads 80 lost 0 converted 9 repaired 156 \
+            report 2bdc79c95a80d1cb865167b61f18a478b94127b4c3340ca155b56a7a27c3aa89\n",
     ),
     Case("seed 7", "", 0, 2, 4, "seed 7 "),
     Case("seed -1", "", 1, 0, 2, "refused words\n"),

@@ -41,7 +41,8 @@ visit-requires-clause-idle g c =
     let low : file < length xs = omega arith in
     let d = c.index-accesses-file.result in
     let v = c.loop-file.invariant.visited in
-    let passed = visited_passed dues k (length old) most (map f old) (map f xs) [] c.loop-file.parts.items c.requires.due
+    let passed = visited_passed dues k (length old) most (map f old) (map f xs) [] c.loop-file.parts.items
+    c.requires.due
     c.requires.stages c.requires.idle (filed (map f old) (all_kept f old (λ x. g.met.A.Access.kept x))) v in
     all_at Rattle.mf_vault.specs.Conditions.IsIdle f xs file d passed.idle low
 
@@ -60,7 +61,8 @@ visit-requires-clause-family g c =
     let low : file < length xs = omega arith in
     let d = c.index-accesses-file.result in
     let v = c.loop-file.invariant.visited in
-    let passed = visited_passed dues k (length old) most (map f old) (map f xs) [] c.loop-file.parts.items c.requires.due
+    let passed = visited_passed dues k (length old) most (map f old) (map f xs) [] c.loop-file.parts.items
+    c.requires.due
     c.requires.stages c.requires.idle (filed (map f old) (all_kept f old (λ x. g.met.A.Access.kept x))) v in
     let e = length-map xs f in
     subst (λ (a : Actor). IsOfFamily c.args.family.now.shape c.args.family.now.points a.facts.book)
@@ -83,7 +85,8 @@ visit-requires-clause-due g c =
     let low : file < length xs = omega arith in
     let d = c.index-accesses-file.result in
     let v = c.loop-file.invariant.visited in
-    let passed = visited_passed dues k (length old) most (map f old) (map f xs) [] c.loop-file.parts.items c.requires.due
+    let passed = visited_passed dues k (length old) most (map f old) (map f xs) [] c.loop-file.parts.items
+    c.requires.due
     c.requires.stages c.requires.idle (filed (map f old) (all_kept f old (λ x. g.met.A.Access.kept x))) v in
     let e = length-map xs f in
     stage_at c.args.family.now.shape c.args.family.now.points (f (get_or xs file d)).facts
@@ -108,7 +111,8 @@ plus-io-requires g c =
     let low : file < length xs = omega arith in
     let d = c.index-accesses-file.result in
     let v = c.loop-file.invariant.visited in
-    let passed = visited_passed dues k (length old) most (map f old) (map f xs) [] c.loop-file.parts.items c.requires.due
+    let passed = visited_passed dues k (length old) most (map f old) (map f xs) [] c.loop-file.parts.items
+    c.requires.due
     c.requires.stages c.requires.idle (filed (map f old) (all_kept f old (λ x. g.met.A.Access.kept x))) v in
     let stage = due.1 in
     let stages = c.requires.stages in
@@ -137,7 +141,8 @@ loop-file-preserved g c =
     let low : file < length xs = omega arith in
     let d = c.index-accesses-file.result in
     let v = c.loop-file.invariant.visited in
-    let passed = visited_passed dues k (length old) most (map f old) (map f xs) [] c.loop-file.parts.items c.requires.due
+    let passed = visited_passed dues k (length old) most (map f old) (map f xs) [] c.loop-file.parts.items
+    c.requires.due
     c.requires.stages c.requires.idle (filed (map f old) (all_kept f old (λ x. g.met.A.Access.kept x))) v in
     let e = length-map xs f in
     let n = (slice_index_or dues k (0, 0)).1 in

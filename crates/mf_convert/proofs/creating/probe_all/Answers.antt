@@ -20,11 +20,13 @@ loop-name-preserved g c =
     let spare = c.probe-state.ensures.spare in
     let grown = c.append.ensures.capacity in
     record {
-      does = probed_more c.args.names.now c.loop-name.states.items c.loop-name.name-index (Data 0) v.does v.long c.probe-state.ensures.goes
+      does = probed_more c.args.names.now c.loop-name.states.items c.loop-name.name-index (Data 0) v.does v.long
+          c.probe-state.ensures.goes
           c.append.ensures.items low;
       builder = probe_stays v.builder c.probe-state.ensures.goes;
       long = ap length c.append.ensures.items ∙ (more ∙ ap (λ n. n + 1) long);
-      marked = marked_more c.args.names.now c.loop-name.states.items c.loop-name.name-index (Data 0) v.builder v.marked v.long
+      marked = marked_more c.args.names.now c.loop-name.states.items c.loop-name.name-index (Data 0) v.builder v.marked
+          v.long
           c.probe-state.ensures.goes c.append.ensures.items low;
       capacity = omega arith;
       room = omega arith;

@@ -8,6 +8,9 @@ use Rattle.mf_decode.proofs.applying.add_parities.Given as goal
 abbrev pub invariant-loop-j : goal.invariant-loop-j
 invariant-loop-j l = record {
   sums : (x : ℕ) → x < length l.out
-      → get_or l.out x 0 ≡ bit_xor (get_or l.fn.out x 0) (sum_below l.j (λ (j : ℕ). times (entry l.fn.inverse l.fn.e j) (get_or (column (l.fn.start + x) l.fn.parities) j 0)));
+      → get_or l.out x 0
+      ≡ bit_xor (get_or l.fn.out x 0)
+      (sum_below l.j
+      (λ (j : ℕ). times (entry l.fn.inverse l.fn.e j) (get_or (column (l.fn.start + x) l.fn.parities) j 0)));
   bytes : (k : ℕ) (d : List ℕ) → k < l.j → All (λ b. b < 256) (get_or l.fn.parities k d);
 }

@@ -13,7 +13,10 @@ loop-e-preserved c =
     let e = c.loop-e.e in
     let f = decode_row a.inverse.now a.points.now a.pieces.now in
     let row : c.push_weights.new.row.items ≡ f e =
-    c.in_ok-push_weights.ensures ∙ ap (λ (l : List ℕ). l ++ weights_from (row_entries a.inverse.now e) a.points.now 0 a.pieces.now) c.in_ok-row.ensures in
-    ap rows c.in_ok-push.ensures.items ∙ map_push (λ (w : Vec ℕ Global). w.items) c.loop-e.lists.items c.push_weights.new.row
+    c.in_ok-push_weights.ensures
+    ∙ ap (λ (l : List ℕ). l ++ weights_from (row_entries a.inverse.now e) a.points.now 0 a.pieces.now)
+    c.in_ok-row.ensures in
+    ap rows c.in_ok-push.ensures.items
+    ∙ map_push (λ (w : Vec ℕ Global). w.items) c.loop-e.lists.items c.push_weights.new.row
     ∙ ap₂ (λ (l : List (List ℕ)) (r : List ℕ). l ++ r ∷ []) c.loop-e.invariant row
     ∙ sym (map-range_with_len_more f 0 e e (let z : 0 + e ≡ e = omega arith in z))

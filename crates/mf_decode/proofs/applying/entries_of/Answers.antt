@@ -13,4 +13,6 @@ loop-j-preserved c =
 
 pub returns : goal.returns
 returns c =
-    c.loop-j.invariant ∙ ap (λ (n : ℕ). list_of n (entry c.args.inverse.now c.args.e)) (let e : c.loop-j.j ≡ c.args.inverse.now.columns = omega arith in e)
+    c.loop-j.invariant
+    ∙ ap (λ (n : ℕ). list_of n (entry c.args.inverse.now c.args.e))
+    (let e : c.loop-j.j ≡ c.args.inverse.now.columns = omega arith in e)

@@ -13,7 +13,8 @@ loop-t-preserved c =
     let piece = c.index-pieces-t.result in
     let row = row_entries a.inverse.now a.e in
     let lt : t < length pieces = c.loop-t-test.true in
-    let more : take (t + 1) pieces ≡ take t pieces ++ piece ∷ [] = take_more pieces t piece lt ∙ ap (λ o. take t pieces ++ o ∷ []) (sym c.index-pieces-t.is) in
+    let more : take (t + 1) pieces ≡ take t pieces ++ piece ∷ [] = take_more pieces t piece lt
+    ∙ ap (λ o. take t pieces ++ o ∷ []) (sym c.index-pieces-t.is) in
     let long : 0 + length (take t pieces) ≡ t = (let l = length-take-le t pieces (omega arith) in omega arith) in
     elim c.if-is_some.branch [
       | then-is_some+in_ok-push w ↦
@@ -22,10 +23,12 @@ loop-t-preserved c =
           ∙ append_assoc a.row.now.items (weights_from row a.points.now 0 (take t pieces)) (w.weight.result ∷ [])
           ∙ ap (λ (l : List ℕ). a.row.now.items ++ l)
           (ap (λ (n : ℕ). weights_from row a.points.now 0 (take t pieces) ++ n ∷ []) w.weight.ensures
-          ∙ sym (weights-push-some row a.points.now 0 t (take t pieces) piece (sym c.is_some.ensures ∙ w.if-is_some.true) long)
+          ∙ sym (weights-push-some row a.points.now 0 t (take t pieces) piece
+          (sym c.is_some.ensures ∙ w.if-is_some.true) long)
           ∙ ap (weights_from row a.points.now 0) (sym more))
       | else-is_some w ↦
           ap (λ v. v.items) w.row-is ∙ c.loop-t.invariant
           ∙ ap (λ (l : List ℕ). a.row.now.items ++ l)
-          (sym (weights-push-none row a.points.now 0 (take t pieces) piece (sym c.is_some.ensures ∙ w.if-is_some.false)) ∙ ap (weights_from row a.points.now 0) (sym more))
+          (sym (weights-push-none row a.points.now 0 (take t pieces) piece (sym c.is_some.ensures ∙ w.if-is_some.false))
+          ∙ ap (weights_from row a.points.now 0) (sym more))
     ]

@@ -12,5 +12,6 @@ invariant-loop-parity l = record {
 abbrev pub invariant-loop-piece : goal.invariant-loop-piece
 invariant-loop-piece l = record {
   shared : l.all.items ≡ l.fn.parities ++ present (take l.piece-index l.fn.pieces);
-  bytes : (k : ℕ) (d : Option (List ℕ)) → k < l.piece-index → IfSome (get_or l.fn.pieces k d) (λ chunk. All (λ b. b < 256) chunk);
+  bytes : (k : ℕ) (d : Option (List ℕ)) → k < l.piece-index
+      → IfSome (get_or l.fn.pieces k d) (λ chunk. All (λ b. b < 256) chunk);
 }

@@ -14,7 +14,10 @@ plan-requires-clause-erasure c =
     let second : c.len-2.result ≡ length c.in_ok-had.had.items = search rules in
     let same : c.len.result ≡ c.len-2.result = search rules in
     let few : length spare ≤ count = c.requires.points.1 in
-    let even : length (gaps_from 0 pieces) ≡ length (gaps_from 0 spare) = ap length (sym c.in_ok-erased.ensures) ∙ sym first ∙ same ∙ second ∙ ap length c.in_ok-had.ensures in
-    subst (λ (l : List ℕ). IsErasure width count l c.as_slice-2.result.now) (sym (c.as_slice.ensures.value ∙ c.in_ok-erased.ensures))
-    (subst (λ (l : List ℕ). IsErasure width count (gaps_from 0 pieces) l) (sym (c.as_slice-2.ensures.value ∙ c.in_ok-had.ensures))
+    let even : length (gaps_from 0 pieces) ≡ length (gaps_from 0 spare) = ap length (sym c.in_ok-erased.ensures)
+    ∙ sym first ∙ same ∙ second ∙ ap length c.in_ok-had.ensures in
+    subst (λ (l : List ℕ). IsErasure width count l c.as_slice-2.result.now)
+    (sym (c.as_slice.ensures.value ∙ c.in_ok-erased.ensures))
+    (subst (λ (l : List ℕ). IsErasure width count (gaps_from 0 pieces) l)
+    (sym (c.as_slice-2.ensures.value ∙ c.in_ok-had.ensures))
     (gaps_erasure width count pieces spare (omega arith) few even))

@@ -7,5 +7,6 @@ abbrev pub invariant-loop-piece : goal.invariant-loop-piece
 invariant-loop-piece l = record {
   filled_so_far : l.all.items ≡ filled [] (take l.piece-index l.fn.found) l.fn.fillings;
   gaps_so_far : l.gaps ≡ length (gaps_from 0 (take l.piece-index l.fn.found));
-  bytes : (k : ℕ) (d : Option (List ℕ)) → k < l.piece-index → IfSome (get_or l.fn.found k d) (λ chunk. All (λ b. b < 256) chunk);
+  bytes : (k : ℕ) (d : Option (List ℕ)) → k < l.piece-index
+      → IfSome (get_or l.fn.found k d) (λ chunk. All (λ b. b < 256) chunk);
 }

@@ -27,9 +27,12 @@ returns-then-is_empty-clause-data c =
     let none : gaps_from 0 found ≡ [] = c.requires.gaps ∙ no_places c.args.erased.now empty in
     if_ok-map c.fill_gaps.result _ _
     (λ chunks are.
-    subst (λ (l : List (List ℕ)). IsDataList (length found) c.args.chunk l) (sym (are.0 ∙ ap (λ (l : List (Option (List ℕ))). filled [] l []) c.as_slice.ensures.value))
+    subst (λ (l : List (List ℕ)). IsDataList (length found) c.args.chunk l)
+    (sym (are.0 ∙ ap (λ (l : List (Option (List ℕ))). filled [] l []) c.as_slice.ensures.value))
     (no_gaps_list c.args.chunk found none c.requires.piece_sizes
-    (piece_bytes found (subst (λ (l : List (Option (List ℕ))). All (λ piece. IfSome piece (λ chunk. All (λ b. b < 256) chunk)) l) c.as_slice.ensures.value are.1))))
+    (piece_bytes found
+    (subst (λ (l : List (Option (List ℕ))). All (λ piece. IfSome piece (λ chunk. All (λ b. b < 256) chunk)) l)
+    c.as_slice.ensures.value are.1))))
     (if_ok-both c.fill_gaps.result _ _ c.fill_gaps.ensures.all c.fill_gaps.ensures.bytes)
 
 pub returns-then-is_empty-clause-only : goal.returns-then-is_empty-clause-only
@@ -48,17 +51,29 @@ returns-clause-only c =
     let found = c.args.found.items in
     let parities = c.args.had.now.chunks.items in
     let size = c.args.chunk in
-    let plan : Plan = record { points = c.args.points.now; width = c.args.width; erased = c.args.erased.now; parities = c.args.had.now.numbers.items } in
+    let plan : Plan = record {
+      points = c.args.points.now;
+      width = c.args.width;
+      erased = c.args.erased.now;
+      parities =
+          c.args.had.now.numbers.items;
+    } in
     let lists : List (List ℕ) = rows c.in_ok-lists.lists.items in
-    let numbers : c.in_ok-plan.plan ≡ plan = c.in_ok-plan.ensures ∙ ap (λ (l : List ℕ). record { points = c.args.points.now; width = c.args.width; erased = c.args.erased.now; parities = l }) c.as_slice-2.ensures.value in
+    let numbers : c.in_ok-plan.plan ≡ plan = c.in_ok-plan.ensures
+    ∙ ap (λ (l : List ℕ). record
+    { points = c.args.points.now; width = c.args.width; erased = c.args.erased.now; parities = l })
+    c.as_slice-2.ensures.value in
     let fillings : lists ≡ c.as_slice-6.result.now = sym (c.as_slice-6.ensures.value ∙ c.in_ok-fillings.ensures) in
-    let P : Vec (List ℕ) Global → Type 0 = λ chunks. chunks.items ≡ filled [] c.as_slice-5.result.now c.as_slice-6.result.now in
-    let Q : Vec (List ℕ) Global → Type 0 = λ chunks. (list : List (List ℕ)) → Agrees plan size found parities list → list ≡ chunks.items in
+    let P : Vec (List ℕ) Global
+    → Type 0 = λ chunks. chunks.items ≡ filled [] c.as_slice-5.result.now c.as_slice-6.result.now in
+    let Q : Vec (List ℕ) Global → Type 0 = λ chunks. (list : List (List ℕ)) → Agrees plan size found parities list
+    → list ≡ chunks.items in
     IfOk-weaker c.fill_gaps-2.result P Q
     (λ chunks e list a.
     c.in_ok-lists.ensures.only list
     (subst (λ (p : Plan). Agrees p size c.as_slice-3.result.now c.as_slice-4.result.now list) (sym numbers)
     (subst (λ l. Agrees plan size l c.as_slice-4.result.now list) (sym c.as_slice-3.ensures.value)
     (subst (λ l. Agrees plan size found l list) (sym c.as_slice-4.ensures.value) a)))
-    ∙ ap (λ l. filled [] l lists) (c.as_slice-3.ensures.value ∙ sym c.as_slice-5.ensures.value) ∙ ap (filled [] c.as_slice-5.result.now) fillings ∙ sym e)
+    ∙ ap (λ l. filled [] l lists) (c.as_slice-3.ensures.value ∙ sym c.as_slice-5.ensures.value)
+    ∙ ap (filled [] c.as_slice-5.result.now) fillings ∙ sym e)
     c.fill_gaps-2.ensures.all

@@ -15,8 +15,17 @@ returns-then-n-room-clause-refused g c =
       c.in_ok-n.ensures.count ∙ c.loop-text.invariant.2,
       (
         c.loop-text.text.items ++ part,
-        Consumes-trans (left c.args.source.now) (left c.loop-text.source) (left c.read.new.self) _ _ c.loop-text.invariant.1 c.in_ok-n.ensures.bytes.0,
-        omega (arith, length-append c.loop-text.text.items part, size, c.in_ok-n.ensures.bound.0, length-take (c.min-ask.result + 1) c.loop-text.buf, c.loop-text.text.ok.0),
+        Consumes-trans (left c.args.source.now) (left c.loop-text.source) (left c.read.new.self) _ _
+            c.loop-text.invariant.1 c.in_ok-n.ensures.bytes.0,
+        omega (
+          arith,
+          length-append c.loop-text.text.items part,
+          size,
+          c.in_ok-n.ensures.bound.0,
+          length-take
+              (c.min-ask.result + 1) c.loop-text.buf,
+          c.loop-text.text.ok.0,
+        ),
       ),
     )
 
@@ -27,12 +36,14 @@ returns-in_err-extend_from_slice-clause-refused g c =
     let part = take n c.read.new.buf in
     let size : length part ≡ n = length-take-le n c.read.new.buf c.in_ok-n.ensures.bound.0 in
     IfErr-from_one _ Memory
-    (λ e. LeavesRefused e c.args.limit (left c.args.source.now) (left c.read.new.self) (g.S.Source.faults c.args.source.now) (g.S.Source.faults c.read.new.self))
+    (λ e. LeavesRefused e c.args.limit (left c.args.source.now) (left c.read.new.self)
+    (g.S.Source.faults c.args.source.now) (g.S.Source.faults c.read.new.self))
     c.from_residual-in_err-extend_from_slice.ensures.1 (
       c.in_ok-n.ensures.count ∙ c.loop-text.invariant.2,
       (
         c.loop-text.text.items ++ part,
-        Consumes-trans (left c.args.source.now) (left c.loop-text.source) (left c.read.new.self) _ _ c.loop-text.invariant.1 c.in_ok-n.ensures.bytes.0,
+        Consumes-trans (left c.args.source.now) (left c.loop-text.source) (left c.read.new.self) _ _
+            c.loop-text.invariant.1 c.in_ok-n.ensures.bytes.0,
         omega (arith, length-append c.loop-text.text.items part, size, c.loop-text.text.ok.0),
       ),
     )

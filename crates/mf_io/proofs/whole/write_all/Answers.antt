@@ -15,8 +15,15 @@ loop-done-preserved g c =
     take_all (length bytes - done) (drop done bytes) (omega (arith, length-drop done bytes)) in
     let two : take done bytes ++ take n (take (length bytes - done) (drop done bytes)) ≡ take (done + n) bytes =
     ap (λ xs. take done bytes ++ take n xs) rest ∙ sym (take-add done n bytes) in (
-      omega (arith, c.in_ok-done.ensures.bound, length-take (length bytes - done) (drop done bytes), length-drop done bytes),
+      omega (
+        arith,
+        c.in_ok-done.ensures.bound,
+        length-take (length bytes - done) (drop done bytes),
+        length-drop done
+            bytes,
+      ),
       subst (Appends (written c.args.sink.now) (written c.write.new.self)) two
-          (Appends-trans (written c.args.sink.now) (written c.loop-done.sink) (written c.write.new.self) _ _ c.loop-done.invariant.1 c.in_ok-done.ensures.bytes),
+          (Appends-trans (written c.args.sink.now) (written c.loop-done.sink) (written c.write.new.self) _ _
+          c.loop-done.invariant.1 c.in_ok-done.ensures.bytes),
       c.in_ok-done.ensures.count ∙ c.loop-done.invariant.2,
     )

@@ -10,4 +10,5 @@ swizzle c = low_ok c.args.lanes c.fits-lanes
 pub returns : goal.returns
 returns c = λ f table.
     let v = c.args.lanes in
-    looked_up f c.args.table (λ x. bit_and x 15) v _ table c.fits-lanes (zip2_splat bit_and v 32 15 c.fits-lanes.0) (λ x h. omega (arith, and_le_r x 15))
+    looked_up f c.args.table (λ x. bit_and x 15) v _ table c.fits-lanes (zip2_splat bit_and v 32 15 c.fits-lanes.0)
+    (λ x h. omega (arith, and_le_r x 15))

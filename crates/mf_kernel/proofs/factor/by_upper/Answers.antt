@@ -9,4 +9,5 @@ swizzle c = high_ok c.args.lanes c.fits-lanes
 pub returns : goal.returns
 returns c = λ f table.
     let v = c.args.lanes in
-    looked_up f c.args.table (λ x. x / 16) v _ table c.fits-lanes (zip2_splat down v 32 4 c.fits-lanes.0) (λ x h. omega arith)
+    looked_up f c.args.table (λ x. x / 16) v _ table c.fits-lanes (zip2_splat down v 32 4 c.fits-lanes.0)
+    (λ x h. omega arith)

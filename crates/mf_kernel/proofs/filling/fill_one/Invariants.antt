@@ -6,4 +6,5 @@ use Rattle.mf_kernel.specs.Values.{values}
 use Rattle.mf_kernel.proofs.filling.fill_one.Given as goal
 
 abbrev pub invariant-loop-block : goal.invariant-loop-block
-invariant-loop-block l = (k : ℕ) → k < l.block * 32 → k < length l.fn.out → get_or l.out k 0 ≡ dot (values l.fn.row) (column k l.fn.chunks)
+invariant-loop-block l = (k : ℕ) → k < l.block * 32 → k < length l.fn.out
+    → get_or l.out k 0 ≡ dot (values l.fn.row) (column k l.fn.chunks)

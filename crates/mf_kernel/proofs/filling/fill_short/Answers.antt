@@ -7,5 +7,6 @@ use Rattle.mf_kernel.proofs.filling.fill_short.Goals as goal
 
 pub returns : goal.returns
 returns c =
-    list_of_from (length c.args.out.now) (λ x. dot (values c.args.row.now) (column x c.args.chunks.now)) c.loop-x.out (omega arith)
+    list_of_from (length c.args.out.now) (λ x. dot (values c.args.row.now) (column x c.args.chunks.now)) c.loop-x.out
+    (omega arith)
     (λ x lt. c.loop-x.invariant x (omega arith))

@@ -11,18 +11,24 @@ loop-block-preserved c =
     let a = c.args in
     let s = c.block_start-at in
     let l = c.lane_sums-sums in (
-      lanes_front (λ k. dot (values a.first.now) (column k a.chunks.now)) (length a.a.now) c.loop-block.block s.result c.loop-block.a c.put_lanes.new.bytes l.result.first
-          (omega arith) (omega arith) s.ensures.joined (λ k lt below. s.ensures.reach k lt (omega arith)) l.ensures.lengths.1 c.put_lanes.ensures l.ensures.first c.loop-block.invariant.0,
-      lanes_front (λ k. dot (values a.second.now) (column k a.chunks.now)) (length a.a.now) c.loop-block.block s.result c.loop-block.b c.put_lanes-in-loop-block.new.bytes l.result.second
-          (omega arith) (omega arith) s.ensures.joined (λ k lt below. s.ensures.reach k lt (omega arith)) l.ensures.lengths.2 c.put_lanes-in-loop-block.ensures l.ensures.second c.loop-block.invariant.1,
+      lanes_front (λ k. dot (values a.first.now) (column k a.chunks.now)) (length a.a.now) c.loop-block.block s.result
+          c.loop-block.a c.put_lanes.new.bytes l.result.first
+          (omega arith) (omega arith) s.ensures.joined (λ k lt below. s.ensures.reach k lt (omega arith))
+          l.ensures.lengths.1 c.put_lanes.ensures l.ensures.first c.loop-block.invariant.0,
+      lanes_front (λ k. dot (values a.second.now) (column k a.chunks.now)) (length a.a.now) c.loop-block.block s.result
+          c.loop-block.b c.put_lanes-in-loop-block.new.bytes l.result.second
+          (omega arith) (omega arith) s.ensures.joined (λ k lt below. s.ensures.reach k lt (omega arith))
+          l.ensures.lengths.2 c.put_lanes-in-loop-block.ensures l.ensures.second c.loop-block.invariant.1,
     )
 
 pub returns-clause-first : goal.returns-clause-first
 returns-clause-first c =
-    list_of_from (length c.args.a.now) (λ x. dot (values c.args.first.now) (column x c.args.chunks.now)) c.loop-block.a (omega arith)
+    list_of_from (length c.args.a.now) (λ x. dot (values c.args.first.now) (column x c.args.chunks.now)) c.loop-block.a
+    (omega arith)
     (λ x lt. c.loop-block.invariant.0 x (omega arith) lt)
 
 pub returns-clause-second : goal.returns-clause-second
 returns-clause-second c =
-    list_of_from (length c.args.a.now) (λ x. dot (values c.args.second.now) (column x c.args.chunks.now)) c.loop-block.b (omega arith)
+    list_of_from (length c.args.a.now) (λ x. dot (values c.args.second.now) (column x c.args.chunks.now)) c.loop-block.b
+    (omega arith)
     (λ x lt. c.loop-block.invariant.1 x (omega arith) lt)

@@ -12,7 +12,8 @@ returns-in-0 c =
     zip2_from_places (λ y x. bit_xor y (times a.c x)) a.dst.now a.src.now a.dst.now refl c.requires
     (λ k lt.
     sym (xor_zero_r (get_or a.dst.now k 0))
-    ∙ ap (bit_xor (get_or a.dst.now k 0)) (sym (ap (λ (f : ℕ). times f (get_or a.src.now k 0)) c.in-0.is ∙ zero-times (get_or a.src.now k 0))))
+    ∙ ap (bit_xor (get_or a.dst.now k 0))
+    (sym (ap (λ (f : ℕ). times f (get_or a.src.now k 0)) c.in-0.is ∙ zero-times (get_or a.src.now k 0))))
 
 pub returns-in-1 : goal.returns-in-1
 returns-in-1 c =
@@ -22,4 +23,5 @@ returns-in-1 c =
     ap (λ l. get_or l k 0) c.add_into.ensures
     ∙ get_or-zip2 bit_xor a.dst.now a.src.now k 0 0 0 (omega arith) (omega arith)
     ∙ ap (bit_xor (get_or a.dst.now k 0))
-    (sym (ap (λ (f : ℕ). times f (get_or a.src.now k 0)) c.in-1.is ∙ one-times (get_or a.src.now k 0) (c.type_inv.src k).fits)))
+    (sym (ap (λ (f : ℕ). times f (get_or a.src.now k 0)) c.in-1.is
+    ∙ one-times (get_or a.src.now k 0) (c.type_inv.src k).fits)))

@@ -20,4 +20,5 @@ returns c =
     let least = c.loop-n.auto.n-end in
     let all : c.loop-n.n ≡ count_of c.args.plain.now.book = omega arith in
     c.loop-n.invariant
-    ∙ ap (λ m. map view c.args.list.now.items ++ map (λ x. string (chunk_text c.args.plain.now x)) (range_with_len 0 m)) all
+    ∙ ap (λ m. map view c.args.list.now.items ++ map (λ x. string (chunk_text c.args.plain.now x)) (range_with_len 0 m))
+    all

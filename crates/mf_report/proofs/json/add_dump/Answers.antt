@@ -10,7 +10,8 @@ pub returns : goal.returns
 returns c =
     let r = c.args.plain.now in
     on_ok_weaker c.add_chunks.result
-    (values_next c.args.list.now.items c.push.new.self.items c.add_generations.new.list.items c.add_chunks.new.list.items
+    (values_next c.args.list.now.items c.push.new.self.items c.add_generations.new.list.items
+    c.add_chunks.new.list.items
     c.in_ok-head_value.field-0 (head_text c.args.name.now r) (generation_text r) (chunk_text r)
     (range_with_len 0 (length r.book.shape.stages)) (range_with_len 0 (count_of r.book)) c.in_ok-push.ensures.items
     c.in_ok-head_value.ensures c.in_ok-add_generations.ensures)

@@ -39,6 +39,7 @@ join-requires g c = record {
 
 pub into_plain-plain-requires-clause-last : goal.into_plain-plain-requires-clause-last
 into_plain-plain-requires-clause-last g c =
-    joined_again (view_of c.in-Ok.first) (ap (λ (v : View). v.share) c.in-Ok.ensures.made.view) c.split-second.ensures.old
+    joined_again (view_of c.in-Ok.first) (ap (λ (v : View). v.share) c.in-Ok.ensures.made.view)
+    c.split-second.ensures.old
     c.split-second.ensures.new (ap (λ (a : Actor). a.view) c.new-access.ensures) c.begin-won.ensures.goes
     c.finish-second.ensures.view c.join.ensures.both

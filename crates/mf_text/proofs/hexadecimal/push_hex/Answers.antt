@@ -13,5 +13,6 @@ pub loop-byte-preserved : goal.loop-byte-preserved
 loop-byte-preserved c = (
   c.loop-byte.invariant.0,
   c.extend_from_slice.ensures.items ∙ cond-true _ _ _ c.if-is_err.ensures.negation
-      ∙ rw (c.digit_of.ensures, c.digit_of-in-loop-byte.ensures, c.loop-byte.invariant.1) (hex_text_more c.args.out.now.items c.args.bytes.now c.loop-byte.byte-index c.loop-byte-test.true),
+      ∙ rw (c.digit_of.ensures, c.digit_of-in-loop-byte.ensures, c.loop-byte.invariant.1)
+      (hex_text_more c.args.out.now.items c.args.bytes.now c.loop-byte.byte-index c.loop-byte-test.true),
 )

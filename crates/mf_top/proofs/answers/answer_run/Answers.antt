@@ -13,7 +13,8 @@ returns-in-Ok-report g c =
     λ text is.
     ran c.args.json out text c.args.script.now c.in-Ok.ran.done.items c.deref.result.now c.deref-in-Ok-report.result.now
     c.in-Ok.ran.files.items c.deref-2.result.now c.status_of.result
-    (record { script = is; run = c.in-Ok.ensures.plain; left = c.in-Ok.ensures.left }) c.deref.ensures.value c.deref-2.ensures.value
+    (record { script = is; run = c.in-Ok.ensures.plain; left = c.in-Ok.ensures.left }) c.deref.ensures.value
+    c.deref-2.ensures.value
     c.deref-in-Ok-report.ensures.value
     c.in-Ok-report.ensures.text c.in-Ok-report.ensures.count c.status_of.ensures
 
@@ -27,6 +28,7 @@ returns-in-Err-Sink g c =
     } in
     λ text is.
     ran_front c.args.json out text c.args.script.now c.in-Ok.ran.done.items c.deref.result.now c.in-Ok.ran.files.items
-    c.deref-2.result.now (record { script = is; run = c.in-Ok.ensures.plain; left = c.in-Ok.ensures.left }) c.deref.ensures.value
+    c.deref-2.result.now (record { script = is; run = c.in-Ok.ensures.plain; left = c.in-Ok.ensures.left })
+    c.deref.ensures.value
     c.deref-2.ensures.value
     (rw c.in-Err-Sink.field-0-is at c.in-Err-Sink.ensures.fault)

@@ -41,7 +41,8 @@ run_phase-requires-clause-rest g c κs within =
     let n = c.loop-phase.phase in
     let next : suc n ≡ n + 1 = omega arith in
     let later = subst (λ k. ticks_before s n ≤ ticks_before s k) next (ticks_grow s n) in
-    let on : ticks_before s n ≤ c.ticks_before-now.result = subst (λ t. ticks_before s n ≤ t) (sym c.ticks_before-now.ensures) later in
+    let on : ticks_before s n
+    ≤ c.ticks_before-now.result = subst (λ t. ticks_before s n ≤ t) (sym c.ticks_before-now.ensures) later in
     subst (λ k. AllRestBy s k c.ticks_before-now.result c.loop-phase.files.items) next
     (rest_on s n (ticks_before s n) c.ticks_before-now.result c.loop-phase.files.items c.loop-phase.invariant.1 on)
 
@@ -49,7 +50,8 @@ pub loop-phase-preserved : goal.loop-phase-preserved
 loop-phase-preserved g c =
     run_next c.args.script.now c.loop-phase.phase (λ (d : Done). IsSmall d.io) c.loop-phase.done.items
     c.in_ok-ran.ran.done.items c.append.new.all.items c.loop-phase.files.items c.in_ok-ran.ran.files.items
-    c.ticks_before-now.result c.ticks_before-now.ensures c.loop-phase.invariant.0 c.in_ok-ran.ensures.runs c.in_ok-ran.ensures.rest c.loop-phase.invariant.2
+    c.ticks_before-now.result c.ticks_before-now.ensures c.loop-phase.invariant.0 c.in_ok-ran.ensures.runs
+    c.in_ok-ran.ensures.rest c.loop-phase.invariant.2
     c.in_ok-ran.ensures.small c.in_ok-append.ensures
 
 pub returns-clause-plain : goal.returns-clause-plain
@@ -72,5 +74,6 @@ returns-clause-small g c = c.loop-phase.invariant.2
 pub returns-clause-left : goal.returns-clause-left
 returns-clause-left g c =
     of_lines c.args.script.now c.loop-phase.phase
-    (ticks_before c.args.script.now c.loop-phase.phase) c.loop-phase.files.items c.deref.result.now c.loop-phase.invariant.1
+    (ticks_before c.args.script.now c.loop-phase.phase) c.loop-phase.files.items c.deref.result.now
+    c.loop-phase.invariant.1
     (sym c.deref.ensures.value) c.are_at_rest.ensures

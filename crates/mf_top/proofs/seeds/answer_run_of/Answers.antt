@@ -9,5 +9,6 @@ pub returns-in-Ok : goal.returns-in-Ok
 returns-in-Ok g c =
     λ text.
     c.write_sum.ensures text
-    (run_of c.args.n c.args.script.now c.in-Ok.ran.done.items c.deref.result.now c.in-Ok.ran.files.items c.deref-in-Ok.result.now
+    (run_of c.args.n c.args.script.now c.in-Ok.ran.done.items c.deref.result.now c.in-Ok.ran.files.items
+    c.deref-in-Ok.result.now
     c.requires c.in-Ok.ensures.plain c.in-Ok.ensures.left c.deref.ensures.value c.deref-in-Ok.ensures.value)

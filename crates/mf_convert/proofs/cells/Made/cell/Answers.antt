@@ -23,7 +23,8 @@ bounds-as_slice-p c = let (b, file, m, f) = c.requires in
 
 pub returns-in-Data : goal.returns-in-Data
 returns-in-Data c b file m f = subst (λ y. IfOk c.share.result (λ z. z ≡ y))
-    (data_is c.args.name c.in-Data.i c.as_slice.result.now _ m f c.in-Data.is c.as_slice.ensures.value c.index-as_slice-i.is)
+    (data_is c.args.name c.in-Data.i c.as_slice.result.now _ m f c.in-Data.is c.as_slice.ensures.value
+    c.index-as_slice-i.is)
     c.share.ensures
 
 pub returns-in-Copy : goal.returns-in-Copy

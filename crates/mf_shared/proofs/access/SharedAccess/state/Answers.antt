@@ -17,5 +17,6 @@ returns-clause-made g c = let s = c.args.self.now in let z = s.shared.now in let
     let server = c.server-server.ensures.value ∙ ap (λ (b : BookFacts). server_of b y) z.book_is in
     let reached : IsReached (told_by s) y = λ h. let h = subst (IsIn s.cut) (sym server) h in
     let is = c.has.ensures.1 h in let no = c.if-has.false in search rules in
-    see_made z s.pass s.ledger.items s.cut y c.see.new.pass c.number-n.result c.see.ensures.row.0 c.see.result s.at.1 same
+    see_made z s.pass s.ledger.items s.cut y c.see.new.pass c.number-n.result c.see.ensures.row.0 c.see.result s.at.1
+    same
     (subst (λ j. j < count_of (about z.gate).book) same low) reached c.see.ensures.row.1 c.see.ensures.row.2

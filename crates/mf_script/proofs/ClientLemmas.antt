@@ -1,5 +1,6 @@
 -- Each phase of a script has one to eight clients.
-use Rattle.std.proofs.Common.{◌≡◌, ℕ, zero, suc, ◌+◌, ◌-◌, ◌<◌, ◌≤◌, true, List, [], ◌∷◌, ◌++◌, length, get_or, Option, Some}
+use Rattle.std.proofs.Common.{◌≡◌, ℕ, zero, suc, ◌+◌, ◌-◌, ◌<◌, ◌≤◌, true, List, [], ◌∷◌, ◌++◌, length, get_or, Option}
+use Rattle.std.proofs.Common.{Some}
 use Rattle.std.proofs.Common.{None, refl, sym, ap, ◌∙◌, subst, arith, inl, inr}
 use Rattle.std.proofs.lemmas.List.{length-append, append-nil}
 use Rattle.mf_lines.specs.declared.parts.Command.{Command}
@@ -10,7 +11,8 @@ use Rattle.mf_lines.specs.declared.words.LineWord.{LineWord}
 use Rattle.mf_lines.specs.declared.words.LineWord.TheVariants as word
 use Rattle.mf_lines.specs.declared.forms.Form.{Form}
 use Rattle.mf_lines.specs.declared.forms.Form.TheVariants as says
-use Rattle.mf_lines.specs.Meaning.{Script, SoFar, first_word, on_last, with_client, client_with, with_command, with_form}
+use Rattle.mf_lines.specs.Meaning.{Script, SoFar, first_word, on_last, with_client, client_with, with_command}
+use Rattle.mf_lines.specs.Meaning.{with_form}
 use Rattle.mf_lines.specs.Meaning.{phases_in, clients_with, so_before, with_line, so_with, so_of}
 use Rattle.mf_lines.specs.Lines.{may_follow, may_follow_command}
 use Rattle.mf_lines.proofs.ListLemmas.{on_last-push}
@@ -176,7 +178,8 @@ line_stands : (so : SoFar) (line : List ℕ) (form : Form) → LineIs so line fo
 unfolding Stands
 line_stands so line form is h =
     elim is.place [
-      | inl first ↦ subst (λ f. Stands (Some (first_word f)) (clients_with so f) (with_form so.script (so.lines + 1) f).items)
+      | inl first ↦ subst
+          (λ f. Stands (Some (first_word f)) (clients_with so f) (with_form so.script (so.lines + 1) f).items)
           (sym first.1) (subst (λ l. Stands l so.clients so.script.items) first.0 h)
       | inr (last, was, follows) ↦ next last so (so.lines + 1) form follows is.timely
           (subst (λ l. Stands l so.clients so.script.items) was h)

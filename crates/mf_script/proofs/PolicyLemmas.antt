@@ -1,5 +1,6 @@
 -- A policy has as many thresholds as there are stages.
-use Rattle.std.proofs.Common.{◌≡◌, ℕ, ◌+◌, true, List, [], ◌∷◌, length, Option, Some, None, sym, ap, ◌∙◌, subst, inl, inr}
+use Rattle.std.proofs.Common.{◌≡◌, ℕ, ◌+◌, true, List, [], ◌∷◌, length, Option, Some, None, sym, ap, ◌∙◌, subst, inl}
+use Rattle.std.proofs.Common.{inr}
 use Rattle.std.proofs.Common.{refl}
 use Rattle.std.specs.Prelude.{IfSome}
 use Rattle.mf_lines.specs.declared.words.LineWord.{LineWord}

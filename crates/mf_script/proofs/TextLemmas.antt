@@ -157,7 +157,8 @@ whole_text servers chunk families policy files items dumps =
     join_lines names says.Morph (says.Servers servers ∷ says.Chunk chunk ∷ ((bs ++ fs ++ ps ++ ds) ++ says.End ∷ []))
     ∙ ap (λ x. codes "morph 1" ++ x) (store_text names servers chunk ((bs ++ fs ++ ps ++ ds) ++ says.End ∷ [])
     ∙ ap (λ x. (a ++ b) ++ x) rest)
-    ∙ regroup (codes "morph 1") a b (lines_text [] rs) (lines_text [] (policy_forms policy)) (lines_text [] fs) (lines_text names ps) (lines_text names ds)
+    ∙ regroup (codes "morph 1") a b (lines_text [] rs) (lines_text [] (policy_forms policy)) (lines_text [] fs)
+    (lines_text names ps) (lines_text names ds)
     (10 ∷ codes "end"))
 
 -- ---- the loops

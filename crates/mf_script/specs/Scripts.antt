@@ -14,7 +14,8 @@ abbrev pub block_of : NamedFamily → Block
 block_of named = record { name = named.name; points = named.family.points; stages = named.family.shape.stages }
 
 -- what a script says whose parts are these
-abbrev pub script_with : ℕ → ℕ → List NamedFamily → Option (List ℕ) → List FileLine → List ℕ → List Item → List ℕ → Script
+abbrev pub script_with : ℕ → ℕ → List NamedFamily → Option (List ℕ) → List FileLine → List ℕ → List Item → List ℕ
+    → Script
 script_with servers chunk families policy files file_families items dumps =
     record {
       servers = servers;

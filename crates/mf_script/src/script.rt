@@ -16,9 +16,9 @@ pub struct NamedFamily {
     pub family: Family,
 }
 
-/// A script: its servers, its chunk size, its families, its policy, its files, each of which belongs
-/// to a family, what stands behind these, and the files of its dump lines. A script of this version
-/// has one family, named `main`.
+/// A script: its servers, its chunk size, its families, its policy, its files, each of which
+/// belongs to a family, what stands behind these, and the files of its dump lines. A script of this
+/// version has one family, named `main`.
 #[derive(Debug, Drop)]
 pub struct Script {
     pub(crate) servers: u32,
@@ -43,8 +43,8 @@ impl Model for Script {
         s.families.items s.policy s.files.items s.file_families.items s.items.items s.dumps.items };
 
     ghost invariant = { λ s. IsKept s.families.items
-        (script_with s.servers s.chunk
-        s.families.items s.policy s.files.items s.file_families.items s.items.items s.dumps.items) };
+        (script_with s.servers s.chunk s.families.items s.policy s.files.items
+        s.file_families.items s.items.items s.dumps.items) };
 }
 
 impl Script {

@@ -2,7 +2,8 @@ use crate::seeds::seed_text;
 use crate::{Item, Script, from_seed};
 use std::test::Fail;
 
-// Seeds, with the length of their texts and a hash of these (FNV-1a of 64 bits), as another program drew them.
+// Seeds, with the length of their texts and a hash of these (FNV-1a of 64 bits), as another program
+// drew them.
 static TEXTS: [(u64, usize, u64); 3] = [
     (0, 2_262, 13_203_059_641_013_541_230),
     (7, 2_255, 1_159_524_857_106_762_214),

@@ -7,16 +7,19 @@ use mf_shape::ShapeFault;
 use std::alloc::Global;
 use std::test::Fail;
 
-const SCRIPT: &[u8] =
-    b"morph 1\nservers 6\nchunk 1\npoints 1 2\nstage 2 2 1\nstage 4 2 0\nfile a text abcd\nphase\nclient\ncreate a\nread a\nend";
+const SCRIPT: &[u8] = b"\
+    morph 1\nservers 6\nchunk 1\npoints 1 2\nstage 2 2 1\nstage 4 2 0\nfile a text abcd\n\
+    phase\nclient\ncreate a\nread a\nend";
 
 // The same with CR LF at the end of each line but the last.
-const CR_LF: &[u8] =
-    b"morph 1\r\nservers 6\r\nchunk 1\r\npoints 1 2\r\nstage 2 2 1\r\nstage 4 2 0\r\nfile a text abcd\r\nphase\r\nclient\r\ncreate a\r\nread a\r\nend";
+const CR_LF: &[u8] = b"\
+    morph 1\r\nservers 6\r\nchunk 1\r\npoints 1 2\r\nstage 2 2 1\r\nstage 4 2 0\r\n\
+    file a text abcd\r\nphase\r\nclient\r\ncreate a\r\nread a\r\nend";
 
 // The same without its line `phase`.
-const NO_PHASE: &[u8] =
-    b"morph 1\nservers 6\nchunk 1\npoints 1 2\nstage 2 2 1\nstage 4 2 0\nfile a text abcd\nclient\ncreate a\nread a\nend";
+const NO_PHASE: &[u8] = b"\
+    morph 1\nservers 6\nchunk 1\npoints 1 2\nstage 2 2 1\nstage 4 2 0\nfile a text abcd\n\
+    client\ncreate a\nread a\nend";
 
 // What stands before and behind the bytes of its file, in chunks of 65,536 bytes.
 const LONG_FRONT: &[u8] =
@@ -24,8 +27,9 @@ const LONG_FRONT: &[u8] =
 
 const LONG_BACK: &[u8] = b"\nphase\nclient\ncreate a\nread a\nend";
 
-// Tables of a line's number in the script, what stands in its place, and the text of that line's fault: a row for
-// each kind of fault and each kind of line that can have it, and for pairs of kinds of which the first is told.
+// Tables of a line's number in the script, what stands in its place, and the text of that line's
+// fault: a row for each kind of fault and each kind of line that can have it, and for pairs of
+// kinds of which the first is told.
 static UNREADABLE: [(u32, &[u8], &[u8]); 18] = [
     (1, b"morph\t1", b"text"),
     (2, b"servers\t6", b"text"),
@@ -619,7 +623,8 @@ fn a_script_has_at_most_64_phases_of_8_clients_and_1_024_commands(
     rt: HostRuntime,
 ) -> Result<(), Fail> {
     let alloc = rt.alloc();
-    // The lines before, those of one more, how many of them are allowed, and the line and the limit of one more.
+    // The lines before, those of one more, how many of them are allowed, and the line and the limit
+    // of one more.
     let cases: [(&[u8], &[u8], usize, u32, &[u8]); 3] = [
         (&SCRIPT[..78], b"phase\nclient\n", 64, 136, b"limit phases"),
         (&SCRIPT[..91], b"read a\n", 1_024, 1_034, b"limit commands"),

@@ -1,4 +1,5 @@
-//! Two actors at one file: what one of them can do while the other has the building right, or a pin.
+//! Two actors at one file: what one of them can do while the other has the building right, or a
+//! pin.
 ghost use Rattle.std.specs.Prelude.{◌≡◌};
 ghost use Rattle.mf_machine.specs.Actors.{LacksRight};
 ghost use Rattle.mf_vault.specs.Conditions.{IsIdle, IsOfFamily, Leaves};

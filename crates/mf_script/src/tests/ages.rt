@@ -55,8 +55,9 @@ fn faults_of_ticks_and_sweeps_are_told(rt: HostRuntime) -> Result<(), Fail> {
 }
 
 // Two phases, the second behind 1,000,000,007 ticks, and a sweep in it.
-const AGED: &[u8] =
-    b"policy 0 1000000000\nfile a text abcd\ntick 1\nphase\nclient\ncreate a\nlose 1\ntick 0\ntick 1000000000\ntick 7\nphase\nclient\nsweep\nlose 2\ntick 9\nend";
+const AGED: &[u8] = b"\
+    policy 0 1000000000\nfile a text abcd\ntick 1\nphase\nclient\ncreate a\nlose 1\n\
+    tick 0\ntick 1000000000\ntick 7\nphase\nclient\nsweep\nlose 2\ntick 9\nend";
 
 #[test]
 fn ticks_lie_between_the_phases(rt: HostRuntime) -> Result<(), Fail> {

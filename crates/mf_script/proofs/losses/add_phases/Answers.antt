@@ -19,7 +19,8 @@ loop-item-preserved c =
           ++ flat_map phase_losses (take (w.left-is j) (phases_in (drop (i + 1) items))))
           ∙ losses_more _ c.loop-item.losses w.add_phase.new.losses c.loop-item.left (c.loop-item.left - 1)
           w.in-Phase.clients (phases_in (drop i items)) (phases_in (drop (i + 1) items))
-          (behind_phase items i c.item-item.result w.in-Phase.clients c.loop-item-test.true c.item-item.is w.in-Phase.is)
+          (behind_phase items i c.item-item.result w.in-Phase.clients c.loop-item-test.true c.item-item.is
+          w.in-Phase.is)
           (one_less c.loop-item.left w.if-left-eq0.false)
           (w.in_ok-add_phase-in-Phase.ensures ∙ ap (λ cs. c.loop-item.losses ++ phase_losses cs) w.as_slice.ensures)
           c.loop-item.invariant

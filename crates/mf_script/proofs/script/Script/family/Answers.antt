@@ -9,7 +9,8 @@ pub bounds-as_slice-0 : goal.bounds-as_slice-0
 bounds-as_slice-0 c =
     let s = c.self.inside in
     subst (λ fs. 0 < length fs) (sym c.as_slice.ensures.value)
-    (has_main s.servers s.chunk s.policy s.files.items s.file_families.items s.items.items s.dumps.items s.families.items
+    (has_main s.servers s.chunk s.policy s.files.items s.file_families.items s.items.items s.dumps.items
+    s.families.items
     (HasOne-script c.self.invariant.text _ c.self.invariant.is))
 
 pub returns : goal.returns
@@ -19,7 +20,8 @@ returns c =
     has_main s.servers s.chunk s.policy s.files.items s.file_families.items s.items.items s.dumps.items s.families.items
     (HasOne-script c.self.invariant.text _ c.self.invariant.is) in
     ap (λ (n : NamedFamily). n.family) (sym c.index-as_slice-0.is)
-    ∙ main_is s.servers s.chunk s.policy s.files.items s.file_families.items s.items.items s.dumps.items s.families.items
+    ∙ main_is s.servers s.chunk s.policy s.files.items s.file_families.items s.items.items s.dumps.items
+    s.families.items
     c.index-as_slice-0.result c.self.invariant.over some
     (c.index-as_slice-0.is ∙ ap (λ fs. get_or fs 0 c.index-as_slice-0.result) c.as_slice.ensures.value)
     ∙ ap (λ (v : Script). code_of v (main_of v)) c.self.view_is

@@ -10,3 +10,7 @@ pub mod ScriptLemmas
 pub mod ReadingLemmas
 pub mod Exclusive
 pub mod Drawing
+pub mod WholeLines
+pub mod SeedSteps
+pub mod SeedFamily
+pub mod SeedScript

@@ -22,8 +22,9 @@
 //! of a phase, which fits in 64 bits. `policy`: a threshold for each stage. `one_answer`, a law: a
 //! text is one script or has one fault (the kernel list of a set of places aside), and never both.
 //! `content_bytes`: the bytes of a file's line. `from_seed`: the script of the text that the draws
-//! of a number write. A `Script` keeps that it is some text's script: it has one family, named
-//! `main`, to which each file belongs.
+//! of a number write. `seeds_are_scripts`, a law: each such text is a script, so only want of
+//! memory keeps `from_seed` from its answer. A `Script` keeps that it is some text's script: it has
+//! one family, named `main`, to which each file belongs.
 //!
 //! *Neither.* How long reading takes.
 #![tactic(auto)]

@@ -1,6 +1,6 @@
 //! The scripts of seeds, whose texts are drawn.
 
-ghost use Rattle.std.specs.Prelude.{◌≡◌, ◌<◌, ◌++◌, IfOk, OnOk};
+ghost use Rattle.std.specs.Prelude.{◌≡◌, ◌<◌, ◌++◌, IfOk, IfErr, OnOk};
 ghost use Rattle.mf_script.specs.Scripts.{IsScript};
 ghost use Rattle.mf_script.specs.Seeds.{next, behind, draw, ended, spaced, on_file, store_lines};
 ghost use Rattle.mf_script.specs.Seeds.{file_line, file_lines, creator_lines, creators_lines, verb};
@@ -10,6 +10,7 @@ ghost use Rattle.mf_script.specs.Seeds.{seed_text};
 
 use crate::reading::read_script;
 use crate::script::Script;
+use mf_lines::{Kind, ScriptFault};
 use mf_text::push_decimal;
 use std::alloc::{AllocError, Global};
 
@@ -271,16 +272,28 @@ pub fn seed_text(alloc: Global, n: u64) -> Result<Vec<u8>, AllocError>
     Ok(out)
 }
 
+// The script of a seed's text. That text is a script, so its one fault is want of memory.
+fn read_seed(alloc: Global, n: u64) -> Result<Script, ScriptFault>
+    ensures script { IfOk result (IsScript (seed_text n)) }
+    ensures memory { IfErr result (λ fault. fault.kind ≡ Kind.Memory) }
+{
+    match seed_text(alloc, n) {
+        Ok(text) => read_script(alloc, &text),
+        Err(_) => Err(ScriptFault {
+            line: 0,
+            kind: Kind::Memory,
+        }),
+    }
+}
+
 /// The script of a seed, whose text its generator draws: 16 servers, eight files of up to 4,000
 /// bytes, a policy, and 25 phases of 152 commands. Each of four clients has two files of its own.
-/// Fails where memory runs out. It would fail too where that text were no script; the tests read
-/// many.
+/// Fails only where memory runs out, since the text of each seed is a script.
 pub fn from_seed(alloc: Global, n: u64) -> Result<Script, AllocError>
     ensures { IfOk result (IsScript (seed_text n)) }
 {
-    let text = seed_text(alloc, n)?;
-    match read_script(alloc, &text) {
+    match read_seed(alloc, n) {
         Ok(script) => Ok(script),
-        Err(_fault) => Err(AllocError),
+        Err(_want_of_memory) => Err(AllocError),
     }
 }

@@ -19,8 +19,9 @@ const MULTIPLIER: u64 = 6_364_136_223_846_793_005;
 const INCREMENT: u64 = 1_442_695_040_888_963_407;
 
 // The lines of the store.
-const STORE: &[u8] =
-    b"morph 1\nservers 16\nchunk 64\npoints 1 2 4\nstage 6 3 1\nstage 6 3 0\nstage 12 3 0\npolicy 0 7 30\n";
+const STORE: &[u8] = b"\
+    morph 1\nservers 16\nchunk 64\npoints 1 2 4\nstage 6 3 1\nstage 6 3 0\nstage 12 3 0\n\
+    policy 0 7 30\n";
 
 // A linear congruential generator.
 #[derive(Drop)]

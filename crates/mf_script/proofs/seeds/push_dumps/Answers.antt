@@ -10,4 +10,5 @@ loop-file-init c = no_piece (λ i. ended (on_file (codes "dump") i)) c.args.out.
 pub loop-file-preserved : goal.loop-file-preserved
 loop-file-preserved c =
     c.in_ok-push_on_file.ensures
-    ∙ next_piece (λ i. ended (on_file (codes "dump") i)) c.args.out.now.items c.loop-file.out.items c.loop-file.file c.loop-file.invariant
+    ∙ next_piece (λ i. ended (on_file (codes "dump") i)) c.args.out.now.items c.loop-file.out.items c.loop-file.file
+    c.loop-file.invariant

@@ -1,0 +1,10 @@
+use Rattle.std.proofs.Common.{◌≡◌, ◌+◌, length}
+use Rattle.mf_races.specs.Frames.{AreCells, Moves}
+use Rattle.mf_races.proofs.stepping.cells_in.Given as goal
+
+abbrev pub invariant-loop-n : goal.invariant-loop-n
+invariant-loop-n l = record {
+  moved : Moves (l.g + 1) 0 l.fn.pass l.pass l.site.gate;
+  many : length l.cells.items ≡ l.n;
+  cells : AreCells l.cells.items l.site.gate;
+}

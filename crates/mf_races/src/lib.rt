@@ -1,0 +1,24 @@
+//! Tests in which threads run beside each other on one file, and no code.
+//!
+//! *Only tested.* Eight threads make 10,000 random allowed steps each on the gate of one file:
+//! rounds of readers with a pin, rounds of builders who bring lost names again and publish, closes,
+//! loses and drops. At the end the file at rest agrees with what the threads counted, and each
+//! chunk that was handed out had its bytes.
+//!
+//! *Neither.* Which steps fall between which.
+#![tactic(auto)]
+
+#[cfg(test)]
+mod draws;
+#[cfg(test)]
+mod making;
+#[cfg(test)]
+mod racing;
+#[cfg(test)]
+mod site;
+#[cfg(test)]
+mod stepping;
+#[cfg(test)]
+mod steps;
+#[cfg(test)]
+mod tally;

@@ -7,9 +7,8 @@ ghost use Rattle.mf_client.specs.declared.done.Done.{Done};
 ghost use Rattle.mf_client.specs.Runs.{IsSmall};
 ghost use Rattle.mf_report.specs.Report.{report_text};
 ghost use Rattle.mf_report.specs.Summary.{had_bytes, had_lost, restored_by, is_converted};
-ghost use Rattle.mf_report.specs.Summary.{own_changes, changes_of, reads, losses, conversions};
-ghost use Rattle.mf_report.specs.Summary.{repairs, reads_text, changes_text, digest_text};
-ghost use Rattle.mf_report.specs.Summary.{summary_text};
+ghost use Rattle.mf_report.specs.Summary.{changes_of, reads, losses, conversions, repairs};
+ghost use Rattle.mf_report.specs.Summary.{reads_text, changes_text, summary_text};
 
 use crate::lines::push_word;
 use crate::outcomes::digest_of;
@@ -101,20 +100,6 @@ fn repairs(done: &[Done]) -> u64
     sum
 }
 
-// The change that a command made itself.
-fn push_own(changes: &mut Vec<Change>, outcome: &Outcome) -> Result<(), AllocError>
-    ensures { OnOk result
-        (changes.new.items ≡ changes.old.items ++ own_changes outcome.now) }
-{
-    match outcome {
-        Outcome::Change(change) => {
-            changes.push(*change)?;
-            Ok(())
-        }
-        _ => Ok(()),
-    }
-}
-
 // The changes of parts.
 fn push_parts(changes: &mut Vec<Change>, parts: &[Part]) -> Result<(), AllocError>
     ensures { OnOk result (changes.new.items
@@ -126,12 +111,14 @@ fn push_parts(changes: &mut Vec<Change>, parts: &[Part]) -> Result<(), AllocErro
     Ok(())
 }
 
-// The changes of a command.
+// The changes of a command: the one that it made itself, and those of its parts.
 #[tactic(auto, using(std::proofs::lemmas::List::append_assoc))]
 fn push_changes(changes: &mut Vec<Change>, done: &Done) -> Result<(), AllocError>
     ensures { OnOk result (changes.new.items ≡ changes.old.items ++ changes_of done.now) }
 {
-    push_own(changes, &done.outcome)?;
+    if let Outcome::Change(change) = &done.outcome {
+        changes.push(*change)?;
+    }
     push_parts(changes, done.parts.as_slice())
 }
 
@@ -159,37 +146,22 @@ fn conversions(alloc: Global, done: &[Done]) -> Result<usize, AllocError>
     )
 }
 
-// The numbers of reads.
-#[tactic(auto, unfolding(crate::specs::Summary::reads_text), using(std::proofs::lemmas::List::append_assoc))]
-fn push_reads(out: &mut Vec<u8>, done: &[Done]) -> Result<(), AllocError>
-    ensures { OnOk result (out.new.items ≡ out.old.items ++ reads_text done.now) }
-{
-    push_word(out, b" reads", reads(done) as u64)?;
-    push_word(out, b" lost", losses(done) as u64)
-}
-
-// The numbers of changes and repairs.
-#[tactic(auto, unfolding(crate::specs::Summary::changes_text), using(std::proofs::lemmas::List::append_assoc))]
+// The numbers of reads, changes and repairs.
+#[tactic(auto, unfolding(crate::specs::Summary::reads_text, crate::specs::Summary::changes_text), using(std::proofs::lemmas::List::append_assoc))]
 fn push_counts(alloc: Global, out: &mut Vec<u8>, done: &[Done]) -> Result<(), AllocError>
     requires { length done.now ≤ 4096 }
-    ensures { OnOk result (out.new.items ≡ out.old.items ++ changes_text done.now) }
+    ensures { OnOk result
+        (out.new.items ≡ out.old.items ++ reads_text done.now ++ changes_text done.now) }
 {
     let converted = conversions(alloc, done)?;
+    push_word(out, b" reads", reads(done) as u64)?;
+    push_word(out, b" lost", losses(done) as u64)?;
     push_word(out, b" converted", converted as u64)?;
     push_word(out, b" repaired", repairs(done))
 }
 
-// The digest of the report.
-#[tactic(auto, unfolding(crate::specs::Summary::digest_text), using(std::proofs::lemmas::List::append_assoc))]
-fn push_digest(out: &mut Vec<u8>, report: &[u8]) -> Result<(), AllocError>
-    ensures { OnOk result (out.new.items ≡ out.old.items ++ digest_text report.now) }
-{
-    out.extend_from_slice(b" report ")?;
-    push_hex(out, &digest_of(report))
-}
-
 // The line, where the report has this text.
-#[tactic(auto, using(std::proofs::lemmas::List::append_assoc))]
+#[tactic(auto, unfolding(crate::specs::Summary::digest_text), using(std::proofs::lemmas::List::append_assoc))]
 fn line(alloc: Global, n: u64, done: &[Done], report: &[u8]) -> Result<Vec<u8>, AllocError>
     requires { length done.now ≤ 4096 }
     ensures { IfOk result (λ line. line.items ≡ summary_text n done.now report.now) }
@@ -197,9 +169,9 @@ fn line(alloc: Global, n: u64, done: &[Done], report: &[u8]) -> Result<Vec<u8>, 
     let mut out = Vec::new(alloc);
     push_word(&mut out, b"seed", n)?;
     push_word(&mut out, b" commands", done.len() as u64)?;
-    push_reads(&mut out, done)?;
     push_counts(alloc, &mut out, done)?;
-    push_digest(&mut out, report)?;
+    out.extend_from_slice(b" report ")?;
+    push_hex(&mut out, &digest_of(report))?;
     out.push(b'\n')?;
     Ok(out)
 }

@@ -66,26 +66,6 @@ pub fn report_bytes(
     Ok(out)
 }
 
-// The report's bytes, as JSON or line by line.
-fn written_bytes(
-    alloc: Global,
-    script: &Script,
-    commands: &[Done],
-    files: &[Plain],
-    json: bool,
-) -> Result<Vec<u8>, AllocError>
-    requires few { length commands.now ≤ 4096 }
-    requires small { All (λ (d : Done). IsSmall d.io) commands.now }
-    ensures { IfOk result
-        (λ text. text.items ≡ written_text json script.now commands.now files.now) }
-{
-    if json {
-        json_bytes(alloc, script, commands, files)
-    } else {
-        report_bytes(alloc, script, commands, files)
-    }
-}
-
 /// Writes the report of these commands of the script, in their order: one line for each, with what
 /// came of it and the operations on chunks that it took, one line for each of its parts, the dumps
 /// that the script asks for of these files, and the sums of the operations. With `json` it writes
@@ -111,7 +91,12 @@ pub fn report<K: Sink>(
     ensures fault { IfErr result (λ fault. Leaves fault
         (written_text json script.now done.now files.now) (K.written sink.old) (K.written sink.new) (K.faults sink.old) (K.faults sink.new)) }
 {
-    let Ok(text) = written_bytes(alloc, script, done, files, json) else {
+    let made = if json {
+        json_bytes(alloc, script, done, files)
+    } else {
+        report_bytes(alloc, script, done, files)
+    };
+    let Ok(text) = made else {
         return Err(ReportFault::Memory);
     };
     match write_all(sink, &text) {

@@ -1,2 +1,3 @@
 mod Phases
 mod Following
+mod Visited

@@ -4,6 +4,9 @@ use Rattle.mf_check.specs.Families.{Code}
 use Rattle.mf_vault.specs.Actor.{Actor}
 use Rattle.mf_vault.specs.Conditions.{IsIdle, IsOfFamily}
 use Rattle.mf_vault.specs.Facts.{Facts}
+use Rattle.mf_shared.specs.declared.seat.Seat.{Seat}
+use Rattle.mf_shared.specs.declared.shared.Shared.{Shared}
+use Rattle.mf_shared.specs.Seats.{IsOf, view_of}
 use Rattle.mf_trials.specs.Mendings.{HasLine}
 
 -- the file is of the family, has these bytes, and its server 0 has a lose line 11
@@ -22,3 +25,8 @@ pub record Follows (a b : Actor) : Type 0 where
   pub idle : IsIdle b
   pub facts : b.facts ≡ a.facts
   pub share : b.view.share ≡ a.view.share
+
+-- the second seat is of the file, with the share of the first
+pub record Stays (a b : Seat) (s : Shared) : Type 0 where
+  pub of : IsOf b s
+  pub share : (view_of b).share ≡ (view_of a).share

@@ -3,7 +3,10 @@
 //!
 //! *Only tested.* Kernels, encodings, merges, gatherings, families, cut files and a book, at the
 //! limits too, beside plain loops; a file that its only actor creates, reads, converts, repairs and
-//! reclaims, with its counts; two actors at one file, of whom one has the right and a pin.
+//! reclaims, with its counts; two actors at one file, of whom one has the right and a pin; four
+//! actors of one file in threads, with commands that are drawn, against their ledgers.
+//!
+//! *Neither.* Which steps of the four fall between which.
 #![tactic(auto)]
 
 #[cfg(test)]
@@ -26,6 +29,8 @@ mod mendings;
 mod merges;
 #[cfg(test)]
 mod plain;
+#[cfg(test)]
+mod racing;
 #[cfg(test)]
 mod sharing;
 #[cfg(test)]

@@ -19,7 +19,7 @@ use std::alloc::{AllocError, Global};
 use std::sync::Wait;
 use std::test::Fail;
 
-const STAGES: [Stage; 2] = [
+pub(crate) const STAGES: [Stage; 2] = [
     Stage {
         width: 2,
         parities: 2,
@@ -34,7 +34,7 @@ const STAGES: [Stage; 2] = [
 
 // What an actor does in its turn. Server 0 is the one that is emptied.
 #[derive(Clone, Copy)]
-enum Turn {
+pub(crate) enum Turn {
     Create,
     Read,
     Hold,
@@ -47,13 +47,15 @@ enum Turn {
 }
 
 // What comes of it. A read says from which generation and from how many chunks; a reclaim how many
-// generations were closed, how many names dropped, and how many generations have pins.
+// generations were closed, how many names dropped, and how many generations have pins. A repair
+// that mends nothing is told as a change.
 #[derive(Clone, Copy, Debug, PartialEq, Eq)]
-enum Came {
+pub(crate) enum Came {
     Changed(Change),
     Read(u32, u32),
+    Absent,
     Removed,
-    Held(Pinned),
+    Held(Option<Pinned>),
     Released(bool),
     Reclaimed(u32, u32, usize),
     Lost(u32),
@@ -65,7 +67,7 @@ enum Came {
 static TURNS: [(bool, Turn, Came); 14] = [
     (true, Turn::Create, Came::Changed(Change::Created)),
     (false, Turn::Read, Came::Read(0, 4)),
-    (false, Turn::Hold, Came::Held(Pinned::At(0))),
+    (false, Turn::Hold, Came::Held(Some(Pinned::At(0)))),
     (
         true,
         Turn::Convert,
@@ -98,6 +100,7 @@ fn bytes_as(g: u32, bytes: &[u8], from: u32) -> Came {
 fn read_as(outcome: ReadOutcome) -> Came {
     match outcome {
         ReadOutcome::Bytes { g, bytes, from } => bytes_as(g, bytes.as_slice(), from),
+        ReadOutcome::Absent => Came::Absent,
         ReadOutcome::Removed => Came::Removed,
         _ => Came::Otherwise,
     }
@@ -110,6 +113,7 @@ fn reclaimed_as(outcome: ReclaimOutcome) -> Came {
             dropped,
             pinned,
         } => Came::Reclaimed(closed, dropped, pinned.as_slice().len()),
+        ReclaimOutcome::Absent => Came::Absent,
         _ => Came::Otherwise,
     }
 }
@@ -117,6 +121,9 @@ fn reclaimed_as(outcome: ReclaimOutcome) -> Came {
 fn repaired_as(outcome: RepairOutcome) -> Came {
     match outcome {
         RepairOutcome::Repaired { restored, skipped } => Came::Repaired(restored, skipped),
+        RepairOutcome::Absent => Came::Changed(Change::Absent),
+        RepairOutcome::Removed => Came::Changed(Change::Removed),
+        RepairOutcome::Busy => Came::Changed(Change::Busy),
         _ => Came::Otherwise,
     }
 }
@@ -180,9 +187,9 @@ fn hold<A: Fetch>(access: &mut A) -> Came
     ensures { Follows (A.actor access.old) (A.actor access.new) }
 {
     if access.pinned(Slot::Hold).is_some() {
-        return Came::Otherwise;
+        return Came::Held(None);
     }
-    Came::Held(access.pin(Slot::Hold))
+    Came::Held(Some(access.pin(Slot::Hold)))
 }
 
 // Frees the Hold slot, where it is pinned.
@@ -224,7 +231,7 @@ fn lose_all<A: Fetch>(access: &mut A) -> Result<u32, Memory>
 }
 
 // Takes a turn.
-fn take<A: Fetch>(
+pub(crate) fn take<A: Fetch>(
     alloc: Global,
     access: &mut A,
     family: &Family,
@@ -313,7 +320,7 @@ fn by_one<A: Fetch>(
 }
 
 // The file of these four bytes, not created.
-fn file(alloc: Global, family: &Family, bytes: &[u8]) -> Result<Plain, Memory>
+pub(crate) fn file(alloc: Global, family: &Family, bytes: &[u8]) -> Result<Plain, Memory>
     requires { length bytes.now ≡ 4 }
     ensures family { IfOk result (λ plain.
         IsOfFamily family.now.shape family.now.points plain.book) }
@@ -324,8 +331,8 @@ fn file(alloc: Global, family: &Family, bytes: &[u8]) -> Result<Plain, Memory>
     Plain::new(alloc, book, bytes)
 }
 
-// The turns of the only actor: the first one that went otherwise, the published number that is left,
-// and how many entries there are.
+// The turns of the only actor: the first one that went otherwise, the published number that is
+// left, and how many entries there are.
 fn alone(
     alloc: Global,
     plain: Plain,

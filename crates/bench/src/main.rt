@@ -1,12 +1,16 @@
-//! Times the codes. With a number of turns it prints the best of so many, and with no argument what
-//! it would time.
+//! Times the codes, gets of accesses, and the floor of a store. With a number of turns it prints
+//! the best of so many, and with no argument what it would time.
 #![tactic(auto)]
 
+mod accesses;
 mod checking;
 mod codes;
+mod files;
 mod gathering;
+mod gets;
 mod kernels;
 mod report;
+mod store;
 mod stripe;
 
 use anyhow::{Result, bail};
@@ -37,5 +41,10 @@ fn explain(rt: &impl Print) -> Result<()> {
     println!(rt;
         "check 33+4: four stages of 33 chunks and 4 parities, the worst known that is accepted"
     )?;
+    println!(rt; "get alone, shared: a get by a file's only actor, and by one of several")?;
+    println!(rt;
+        "get by 4: four threads, on names of their own and on one; the time is that of all"
+    )?;
+    println!(rt; "store: 64 files of 1 MiB in chunks of 64 KiB: their SHA-256, and encoding 6+3")?;
     Ok(())
 }

@@ -1,15 +1,41 @@
 //! What is timed, and the lines that are printed of it.
 ghost use Rattle.std.specs.Prelude.{◌≡◌, length};
 
+use crate::accesses::{least_plain, least_shared, least_threads};
 use crate::checking::least_check;
 use crate::codes::{Turns, least_decoding, least_encoding, least_merging};
 use crate::gathering::least_gathering;
 use crate::kernels::{Kernel, least_kernel};
+use crate::store::least_floor;
 use anyhow::Result;
+use mf_vault::Name;
 use std::rt::Clock;
+use std::sync::Wait;
+use std::thread::Threads;
 
 /// Times everything, and prints a line for each.
-pub fn report<R: Print + Clock + AllocGlobal>(rt: &R, turns: u32) -> Result<()> {
+pub fn report<R: Print + Clock + AllocGlobal + Threads + Wait + Sync>(
+    rt: &R,
+    turns: u32,
+) -> Result<()> {
+    report_sizes(rt, turns)?;
+    let least = least_check(
+        rt,
+        Turns {
+            count: turns,
+            repeats: 1,
+        },
+    )?;
+    println!(rt; "check 33+4 {} us", least / 1_000)?;
+    for size in [65_536, 64] {
+        report_gets(rt, turns, size)?;
+    }
+    println!(rt; "store {} ms", least_floor(rt, turns)? / 1_000_000)?;
+    Ok(())
+}
+
+// Times the codes with chunks of each size.
+fn report_sizes<R: Print + Clock + AllocGlobal>(rt: &R, turns: u32) -> Result<()> {
     for kibibytes in [4, 64, 1_024] {
         let repeats = 1_024 / kibibytes;
         let turns = Turns {
@@ -23,14 +49,6 @@ pub fn report<R: Print + Clock + AllocGlobal>(rt: &R, turns: u32) -> Result<()> 
         report_decodings(rt, turns, size, plain)?;
         report_gathering(rt, turns, size, plain)?;
     }
-    let least = least_check(
-        rt,
-        Turns {
-            count: turns,
-            repeats: 1,
-        },
-    )?;
-    println!(rt; "check 33+4 {} us", least / 1_000)?;
     Ok(())
 }
 
@@ -119,6 +137,22 @@ fn report_gathering<R: Print + Clock + AllocGlobal>(
     )
 }
 
+// Times the gets of a file of chunks of this size.
+fn report_gets<R: Print + Clock + AllocGlobal + Threads + Wait + Sync>(
+    rt: &R,
+    turns: u32,
+    size: u32,
+) -> Result<()> {
+    println!(rt; "{size} bytes")?;
+    print_time(rt, "get alone", least_plain(rt, turns, size)?)?;
+    print_time(rt, "get shared", least_shared(rt, turns, size)?)?;
+    let apart = [Name::Data(0), Name::Data(1), Name::Data(2), Name::Data(3)];
+    let least = least_threads(rt, turns, size, apart)?;
+    print_time(rt, "get by 4, names of their own", least)?;
+    let least = least_threads(rt, turns, size, [Name::Data(0); 4])?;
+    print_time(rt, "get by 4, one name", least)
+}
+
 // The rate at which so many bytes are read in each repeat, in hundredths of GB/s.
 fn rate(turns: Turns, bytes: u64, nanoseconds: u64) -> u64 {
     bytes
@@ -137,5 +171,11 @@ fn print_rate(rt: &impl Print, name: &str, rate: u64, plain: u64) -> Result<()> 
         part / 100,
         part % 100
     )?;
+    Ok(())
+}
+
+// Prints a time in tenths of nanoseconds.
+fn print_time(rt: &impl Print, name: &str, time: u64) -> Result<()> {
+    println!(rt; "  {name} {}.{} ns", time / 10, time % 10)?;
     Ok(())
 }

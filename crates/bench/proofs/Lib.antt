@@ -1,0 +1,3 @@
+mod Getting
+mod Filling
+mod Seated

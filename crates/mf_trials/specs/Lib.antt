@@ -1,3 +1,1 @@
 pub mod Stores
-pub mod Mendings
-pub mod Turns

@@ -1,5 +1,0 @@
-use Rattle.mf_client.proofs.Leaving.{removes_leaves}
-use Rattle.mf_trials.proofs.sharing.removed.Goals as goal
-
-pub returns : goal.returns
-returns g c = removes_leaves c.remove.ensures.licence c.requires

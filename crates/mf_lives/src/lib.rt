@@ -11,12 +11,12 @@
 #[cfg(test)]
 mod conversions;
 #[cfg(test)]
-mod engines;
-#[cfg(test)]
 mod mendings;
 #[cfg(test)]
 mod racing;
 #[cfg(test)]
 mod sharing;
+#[cfg(test)]
+mod stages;
 #[cfg(test)]
 mod turns;

@@ -4,28 +4,16 @@ ghost use Rattle.mf_plain.specs.Whole.{actor_of};
 ghost use Rattle.mf_lives.specs.Mendings.{HasLine, IsFileOf, RestsOf};
 ghost use Rattle.mf_vault.specs.Conditions.{IsOfFamily};
 
+use crate::stages::STAGES;
 use mf_check::{Family, check};
 use mf_convert::{Change, create, remove};
 use mf_plain::{Plain, PlainAccess};
 use mf_reclaim::{ReclaimOutcome, reclaim};
 use mf_repair::{RepairOutcome, repair};
-use mf_shape::{Shape, Stage};
+use mf_shape::Shape;
 use mf_vault::{Access, Book, Fetch, Io, Losses, Memory, Name, Servers, count_io};
 use std::alloc::Global;
 use std::test::Fail;
-
-const STAGES: [Stage; 2] = [
-    Stage {
-        width: 2,
-        parities: 2,
-        copies: 1,
-    },
-    Stage {
-        width: 4,
-        parities: 2,
-        copies: 0,
-    },
-];
 
 // What a repair is to come to. The lost names have the lines 11, 12 and so on, by the servers that
 // lost theirs.

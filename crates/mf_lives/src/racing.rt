@@ -6,7 +6,8 @@ ghost use Rattle.mf_shared.specs.Seats.{IsOf, view_of};
 ghost use Rattle.mf_shared.specs.Shared.{facts_in};
 ghost use Rattle.mf_lives.specs.Turns.{Follows, IsAble, IsTried, Stays};
 
-use crate::turns::{Came, STAGES, Turn, file, take};
+use crate::stages::STAGES;
+use crate::turns::{Came, Turn, file, take};
 use mf_check::{Family, check};
 use mf_convert::Change;
 use mf_machine::Closed;

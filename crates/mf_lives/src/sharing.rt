@@ -5,30 +5,18 @@ ghost use Rattle.mf_machine.specs.Actors.{LacksRight};
 ghost use Rattle.mf_vault.specs.Conditions.{IsIdle, IsOfFamily, Leaves};
 
 use crate::conversions::{converted, created};
+use crate::stages::STAGES;
 use mf_check::{Family, check};
 use mf_convert::{Change, remove};
 use mf_plain::Plain;
 use mf_reclaim::{ReclaimOutcome, reclaim};
 use mf_repair::{RepairOutcome, repair};
-use mf_shape::{Shape, Stage};
+use mf_shape::Shape;
 use mf_shared::{Shared, SharedAccess};
 use mf_vault::{Access, Book, Fetch, Losses, Pinned, Slot};
 use std::alloc::Global;
 use std::process::Abort;
 use std::test::Fail;
-
-const STAGES: [Stage; 2] = [
-    Stage {
-        width: 2,
-        parities: 2,
-        copies: 1,
-    },
-    Stage {
-        width: 4,
-        parities: 2,
-        copies: 0,
-    },
-];
 
 // Removes the file, where no other actor builds.
 fn removed<A: Fetch>(access: &mut A) -> Change

@@ -6,31 +6,19 @@ ghost use Rattle.mf_vault.specs.May.{MayLose};
 ghost use Rattle.mf_lives.specs.Mendings.{HasLine};
 ghost use Rattle.mf_lives.specs.Turns.{Follows, IsAble};
 
+use crate::stages::STAGES;
 use mf_check::{Family, check};
 use mf_convert::{Change, convert, create, remove};
 use mf_plain::{Plain, PlainAccess};
 use mf_read::{ReadOutcome, read};
 use mf_reclaim::{ReclaimOutcome, reclaim};
 use mf_repair::{RepairOutcome, repair};
-use mf_shape::{Shape, Stage};
+use mf_shape::Shape;
 use mf_shared::{Shared, SharedAccess};
 use mf_vault::{Access, Book, Fetch, Losses, Memory, Name, Pinned, Servers, Slot};
 use std::alloc::{AllocError, Global};
 use std::sync::Wait;
 use std::test::Fail;
-
-pub(crate) const STAGES: [Stage; 2] = [
-    Stage {
-        width: 2,
-        parities: 2,
-        copies: 1,
-    },
-    Stage {
-        width: 4,
-        parities: 2,
-        copies: 0,
-    },
-];
 
 // What an actor does in its turn. Server 0 is the one that is emptied.
 #[derive(Clone, Copy)]

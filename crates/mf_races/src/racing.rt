@@ -3,12 +3,13 @@ ghost use Rattle.std.specs.Prelude.{◌≡◌, ◌+◌, ◌≤◌, IfOk};
 ghost use Rattle.mf_gate.specs.Passes.{view};
 ghost use Rattle.mf_races.specs.Frames.{AreCells, IsPlaced, Moves};
 
-use crate::draws::Draws;
+use crate::draws::below;
 use crate::site::Site;
 use crate::stepping::{build, close, discard, lose, visit};
 use crate::tally::Tally;
 use mf_gate::Pass;
 use mf_vault::Chunk;
+use rand_pcg::Pcg32;
 use std::alloc::{AllocError, Global};
 use std::sync::atomic::{AtomicU64, Ordering};
 use std::thread;
@@ -42,12 +43,12 @@ pub(crate) struct Side {
 }
 
 // One step, as it is drawn.
-fn step(race: &Race, pass: &mut Pass, draws: &mut Draws, ripe: u32, tally: &mut Tally)
+fn step(race: &Race, pass: &mut Pass, draws: &mut Pcg32, ripe: u32, tally: &mut Tally)
     requires placed { IsPlaced 0 0 pass.old race.now.site.gate }
     ensures { Moves 0 0 pass.old pass.new race.now.site.gate }
 {
-    let n = draws.below(NAMES);
-    match draws.below(64) {
+    let n = below(draws, NAMES);
+    match below(draws, 64) {
         0..32 => visit(&race.site, pass, n, true, tally),
         32..40 => visit(&race.site, pass, n, false, tally),
         40..48 => lose(&race.site, pass, n, tally),
@@ -75,7 +76,7 @@ fn run(alloc: Global, race: &Race, number: u32, mut pass: Pass) -> Result<Side, 
     ensures { IfOk result (λ side. Moves 0 0 pass side.pass race.now.site.gate) }
 {
     let mut tally = Tally::new(alloc, race.site.book.stages(), NAMES)?;
-    let mut draws = Draws::new(number);
+    let mut draws = Pcg32::new(number as u64, 1);
     meet(&race.begun);
     for i in 0..STEPS {
         step(race, &mut pass, &mut draws, i / AGE, &mut tally);

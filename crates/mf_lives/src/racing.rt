@@ -1,6 +1,6 @@
 //! Four actors of one file act beside each other, each in a thread, by commands that are drawn.
-//! Behind them each read had the file's bytes, each refusal has its cause in what was done, and the
-//! file rests as the ledgers tell.
+//! Behind them each read had the file's bytes, each refusal has its cause in what was done, the
+//! published numbers that an actor was told never fall, and the file rests as the ledgers tell.
 ghost use Rattle.std.specs.Prelude.{◌≡◌, ◌+◌, ◌≤◌, IfOk};
 ghost use Rattle.mf_shared.specs.Seats.{IsOf, view_of};
 ghost use Rattle.mf_shared.specs.Shared.{facts_in};
@@ -289,9 +289,52 @@ fn is_caused(records: &[Record], me: usize, came: Came) -> bool {
     }
 }
 
-// The first actor of whom something came without a cause.
+// The published number that an actor was told, where it was told one. A read through a held
+// generation tells none.
+fn number_of(came: Came, is_held: bool) -> Option<u32> {
+    match came {
+        Came::Absent | Came::Changed(Change::Absent) | Came::Held(Some(Pinned::Absent)) => Some(0),
+        Came::Changed(Change::Created) => Some(1),
+        Came::Read(g, _) => { if is_held { None } else { g.checked_add(1) } }
+        Came::Held(Some(Pinned::At(g))) => g.checked_add(1),
+        Came::Changed(Change::Last { g }) => g.checked_add(1),
+        Came::Changed(Change::Converted { to, .. }) => to.checked_add(1),
+        Came::Removed
+        | Came::Changed(Change::Removed | Change::RemovedNow)
+        | Came::Held(Some(Pinned::Removed)) => Some(REMOVED),
+        _ => None,
+    }
+}
+
+// Whether the numbers that an actor was told never fall. Its pins end with each access.
+fn never_falls(all: &[Came]) -> bool {
+    let mut low = 0;
+    let mut is_held = false;
+    for (i, came) in all.iter().enumerate() {
+        if i % COMMANDS as usize == 0 {
+            is_held = false;
+        }
+        if let Some(number) = number_of(*came, is_held) {
+            if number < low {
+                return false;
+            }
+            low = number;
+        }
+        match came {
+            Came::Held(Some(Pinned::At(_))) => is_held = true,
+            Came::Released(_) => is_held = false,
+            _ => {}
+        }
+    }
+    true
+}
+
+// The first actor who was told numbers that fall, or of whom something came without a cause.
 fn first_uncaused(records: &[Record]) -> Option<usize> {
     for (me, record) in records.iter().enumerate() {
+        if !never_falls(record.came.as_slice()) {
+            return Some(me);
+        }
         for came in record.came.as_slice() {
             if !is_caused(records, me, *came) {
                 return Some(me);
@@ -363,12 +406,30 @@ fn first_unlike(records: &[Record], parts: &Parts) -> Option<Unlike> {
     first_uncaused(records).map(|me| Unlike::Actor(me))
 }
 
-// A race with this number: what is unlike behind it.
+// How many reads had bytes, and how many names were restored and dropped.
+fn deeds(records: &[Record]) -> (u32, u32, u32) {
+    let mut reads: u32 = 0;
+    let mut restored: u32 = 0;
+    let mut dropped: u32 = 0;
+    for record in records {
+        for came in record.came.as_slice() {
+            match came {
+                Came::Read(_, _) => reads = reads.wrapping_add(1),
+                Came::Repaired(names, _) => restored = restored.wrapping_add(*names),
+                Came::Reclaimed(_, names, _) => dropped = dropped.wrapping_add(*names),
+                _ => {}
+            }
+        }
+    }
+    (reads, restored, dropped)
+}
+
+// A race with this number: what its actors did, and the parts of the file behind it.
 fn run_race<R: Threads + Wait + Sync>(
     rt: &R,
     alloc: Global,
     number: u32,
-) -> Result<Option<Unlike>, Fail> {
+) -> Result<(Vec<Record>, Parts), Fail> {
     let shape = Shape::new(alloc, &STAGES, 6)?;
     let family = check(alloc, &shape, &[1, 2])?;
     let bytes = Vec::from_slice(alloc, b"abcd")?;
@@ -386,15 +447,21 @@ fn run_race<R: Threads + Wait + Sync>(
     };
     let Side { seat, records } = run_all(rt, alloc, &race, number, CLIENTS, seat)?;
     let Race { shared, .. } = race;
-    let parts = shared.into_plain(seat).apart();
-    Ok(first_unlike(records.as_slice(), &parts))
+    Ok((records, shared.into_plain(seat).apart()))
 }
 
 #[test]
 fn four_actors_leave_each_file_as_their_ledgers_tell(rt: HostRuntime) -> Result<(), Fail> {
     let alloc = rt.alloc();
+    let mut all: (u32, u32, u32) = (0, 0, 0);
     for number in 0..RACES {
-        assert_eq!(rt; run_race(&rt, alloc, number)?, None);
+        let (records, parts) = run_race(&rt, alloc, number)?;
+        assert_eq!(rt; first_unlike(records.as_slice(), &parts), None);
+        let (reads, restored, dropped) = deeds(records.as_slice());
+        all.0 = all.0.wrapping_add(reads);
+        all.1 = all.1.wrapping_add(restored);
+        all.2 = all.2.wrapping_add(dropped);
     }
+    assert!(rt; all.0 > 0 && all.1 > 0 && all.2 > 0);
     Ok(())
 }

@@ -43,7 +43,7 @@ fn explain(rt: &impl Print) -> Result<()> {
     )?;
     println!(rt; "get alone, shared: a get by a file's only actor, and by one of several")?;
     println!(rt;
-        "get by 4: four threads, on names of their own and on one; the time is that of all"
+        "get by 4: four threads, on names of their own and on one; their time by all their gets"
     )?;
     println!(rt; "store: 64 files of 1 MiB in chunks of 64 KiB: their SHA-256, and encoding 6+3")?;
     Ok(())

@@ -10,10 +10,10 @@ use Rattle.mf_machine.specs.declared.view.Met.{Met}
 use Rattle.mf_machine.specs.declared.view.View.{View}
 use Rattle.mf_machine.specs.Actors.{live}
 use Rattle.mf_machine.specs.Answers as answer
-use Rattle.mf_machine.specs.Answers.{Answer}
+use Rattle.mf_machine.specs.Answers.{Answer, often}
 use Rattle.mf_machine.specs.Counts.{times, total, all_begun, all_opened}
 use Rattle.mf_machine.specs.File.{File, Opening, State, Holds}
-use Rattle.mf_machine.specs.Kept.{IsActor, IsMetOf, Stands, Kept}
+use Rattle.mf_machine.specs.Kept.{IsActor, IsMetOf, Stands, Cause, Kept}
 use Rattle.mf_machine.specs.Laws.{Someone, Law, RestIsKept, Stays, PinnedStays, IsLast, resting, alone, BringsBack}
 use Rattle.mf_machine.specs.Laws.{LastBringsBack, Another, Someone, LeadsBack, CausesLeadBack}
 use Rattle.mf_machine.specs.Rest.{Rest}
@@ -37,9 +37,9 @@ law f k w r = let g = (reached f k w r).1 in (rules.kept f k (read f w) r.2 g, g
 -- pinned names stay
 pub stays : (f : File) (k : Opening) (s : State) → Kept f k s → (j : ℕ) (v : View) → IsActor s j v → (g : ℕ)
     → 0 < live g v → (n : ℕ) → n < f.names → Holds f g n → Stays f s n
-stays f k s r j v at g alive n l h = let pin = r.pins.pinned j v at g alive in
-    let alive_name : s.name n ≢ 0 = λ e. r.born.seen j v at g pin.0 pin.2 n l h e in
-    let not_dropped : s.name n ≢ 3 = λ e. pin.1 (r.dropped.done n l e g pin.0 h) in (
+stays f k s r j v at g alive n l h = let b = r.pins.stage j v at g alive in
+    let alive_name : s.name n ≢ 0 = λ e. r.born.seen j v at g b (r.pins.seen j v at g alive) n l h e in
+    let not_dropped : s.name n ≢ 3 = λ e. r.pins.stays_open j v at g alive (r.dropped.done n l e g b h) in (
       dite (ℕ_discrete (s.name n) 1) (λ e. inl e) (λ a. inr (dite (ℕ_discrete (s.name n) 2) (λ e. inl e)
           (λ b. inr (dite (dec_le 4 (s.name n))
           (λ q. q) (λ q. absurd (dite (ℕ_discrete (s.name n) 0) alive_name (λ z. not_dropped (omega arith)))))))),
@@ -56,7 +56,7 @@ pub kept_rests : (f : File) (k : Opening) (s : State) → Kept f k s → ((n : �
     → ((n : ℕ) → n < f.names → s.name n ≢ 1 → s.home n ≡ empty) → Rest f (resting s)
 kept_rests f k s r none bare = record {
   number = r.number.top;
-  closed = λ g l e. (r.pins.closed g l (leb-true 9223372036854775808 (s.pins g) e)).0;
+  closed = λ g l e. r.pins.passed g l (leb-true 9223372036854775808 (s.pins g) e);
   born = λ g l e. r.born.published g l e;
   settled = none;
   dropped = λ n l e g b h. le-leb 9223372036854775808 (s.pins g) (r.dropped.done n l e g b h);
@@ -180,12 +180,13 @@ someone s deed h = total_some deed s.views h
 
 pub leads_back : (f : File) (k : Opening) (s : State) → Kept f k s → (j : ℕ) (v : View) → IsActor s j v
     → LeadsBack f k s j v
-leads_back f k s r j v at = let of = λ (m : Met) (is : IsMetOf v m). r.caused.answers j v at m is in record {
-  refused = λ h. another s j v begun_of v.own.begun (all_begun v.gone) at refl (of v.own (inl refl) answer.refused h);
+leads_back f k s r j v at = record {
+  refused = λ h. another s j v begun_of v.own.begun (all_begun v.gone) at refl
+      (of v.own (inl refl) answer.refused h);
   pinned = λ g p o h more. another s j v (opened_of g) (times g v.own.opened) (all_opened g v.gone) at refl
       (of v.own (inl refl) (answer.pinned g p o) h more);
-  already = λ g m is h. ⊎_elim (λ a. shut g (of m is (answer.already g) a)) (λ a. shut g (of m is (answer.missed g) a))
-      (either (times g m.already) (times g m.missed) h);
+  already = λ g m is h. ⊎_elim (λ a. shut g (of m is (answer.already g) a))
+      (λ a. shut g (of m is (answer.missed g) a)) (either (times g m.already) (times g m.missed) h);
   lost = λ n l m is h. ⊎_elim (λ e. inl e) (λ q. inr (someone s (loses_by n l) q)) (of m is (answer.lost n l) h);
   absent = λ m is h. ⊎_elim (λ e. sym e) (λ q. let t = (r.accounted.published_once 0 q).1 in
       absurd (omega arith)) (of m is (answer.number 0) h);
@@ -193,6 +194,9 @@ leads_back f k s r j v at = let of = λ (m : Met) (is : IsMetOf v m). r.caused.a
       (of m is (answer.number (f.stages + 1)) h);
 }
   where
+    of : (m : Met) → IsMetOf v m → (a : Answer) → 0 < often a m → Cause k s m a
+    of m is a = r.caused.answers a j v at m is
+
     shut : (g : ℕ) → (k.closed g ≡ true) ⊎ Stands (closings g) s → (k.closed g ≡ true) ⊎ Someone s (closings g)
     shut g t = ⊎_elim (λ e. inl e) (λ q. inr (someone s (closings g) q)) t
 

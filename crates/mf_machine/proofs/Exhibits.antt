@@ -1,29 +1,37 @@
 -- A run in which every kind of step occurs, and a state that breaks each rule.
-use Rattle.std.proofs.Common.{◌≡◌, ℕ, zero, suc, ◌+◌, ◌*◌, ◌<◌, eqb, true, false, cond, List, [], ◌∷◌, ◌++◌, get_or}
-use Rattle.std.proofs.Common.{take, drop, subst, refl, inl, inr, ⊎_elim, arith}
+use Rattle.std.proofs.Common.{◌≡◌, ◌≢◌, ◌⊎◌, ℕ, zero, suc, ◌+◌, ◌*◌, ◌<◌, ◌≤◌, eqb, true, false, cond, List, []}
+use Rattle.std.proofs.Common.{◌∷◌, ◌++◌, get_or, take, drop, subst, sym, ap, ◌∙◌, refl, inl, inr, ⊎_elim, arith}
+use mathlib.Core.Logic.{dite}
+use mathlib.Core.Option.{some, some-injective, some-ne-none}
+use native.Mathlib.Decide.{ℕ_discrete}
+use lib.ListN.{get_elem?}
 use Rattle.mf_machine.specs.declared.answer.Slot.TheVariants.{Hold, Work}
-use Rattle.mf_machine.specs.declared.view.View.{View}
-use Rattle.mf_machine.specs.Answers as answer
-use Rattle.mf_machine.specs.Answers.{Answer}
-use Rattle.mf_machine.proofs.Entering.{enter, often_here}
-use Rattle.mf_machine.proofs.Words.{cell_here}
+use Rattle.mf_machine.specs.declared.view.Build.{Build}
 use Rattle.mf_machine.specs.declared.view.Changes.{Changes}
+use Rattle.mf_machine.specs.declared.view.Inside.{Inside}
 use Rattle.mf_machine.specs.declared.view.Made.{Made}
-use Rattle.mf_machine.specs.Worlds.{nothing_made, no_changes}
-use Rattle.mf_machine.specs.Actors.{NextHolds}
-use Rattle.mf_machine.specs.Counts.{truth}
+use Rattle.mf_machine.specs.declared.view.Met.{Met}
+use Rattle.mf_machine.specs.declared.view.Seen.{Seen}
+use Rattle.mf_machine.specs.declared.view.View.{View}
+use Rattle.mf_machine.specs.Actors.{live, PinHolds, NextHolds}
+use Rattle.mf_machine.specs.Answers as answer
+use Rattle.mf_machine.specs.Answers.{Answer, often}
+use Rattle.mf_machine.specs.Counts.{bit, times, truth}
+use Rattle.mf_machine.specs.Exhibits.{Occurs, Exhibits, SomeRun, Breaks, NumberNeeds, PinsNeed, BornNeeds, SeenNeeds}
+use Rattle.mf_machine.specs.Exhibits.{BuilderNeeds, DroppedNeeds, CellsNeed, EachNeeds, AccountedBreaks, Uncaused}
+use Rattle.mf_machine.specs.Exhibits.{CausedNeeds}
 use Rattle.mf_machine.specs.File.{File, Opening, State, Holds, HasCell, Unharmed, name_word}
-use Rattle.mf_machine.specs.Kept.{Number, Pins, Born, Builder, Dropped, Losses, Cells, Cause}
+use Rattle.mf_machine.specs.File.Home.{away, empty, keeps}
+use Rattle.mf_machine.specs.Kept.{IsMetOf, HasSeen, IsInside, HasTaken, Losses, Cause}
+use Rattle.mf_machine.specs.Moves as move
 use Rattle.mf_machine.specs.Moves.{by, Deed, after, Move, Runs, run}
 use Rattle.mf_machine.specs.Rest.{Rest}
-use Rattle.mf_machine.specs.Worlds.{World, actor, Opens, first_view, fresh, nothing_seen, nothing_built}
-use Rattle.mf_machine.specs.Worlds.{nothing_met}
-use Rattle.mf_machine.specs.Exhibits.{Occurs, Exhibits, SomeRun, Breaks, EachBreaks, AccountedBreaks, Uncaused}
-use Rattle.mf_machine.specs.Exhibits.{CausedBreaks}
-use Rattle.mf_machine.specs.File.Home.{away, empty, keeps}
-use Rattle.mf_machine.specs.Kept as kept
-use Rattle.mf_machine.specs.Moves as move
+use Rattle.mf_machine.specs.Worlds.{World, actor, Opens, first_view, fresh, nothing_seen, nothing_built, nothing_met}
+use Rattle.mf_machine.specs.Worlds.{nothing_made, no_changes, outside}
+use Rattle.mf_machine.proofs.Entering.{enter, often_here, often_else}
 use Rattle.mf_machine.proofs.Guards.{runs_if, false_true}
+use Rattle.mf_machine.proofs.Lists.{bit_not}
+use Rattle.mf_machine.proofs.Words.{cell_here}
 
 -- two generations and four names: name 0 is held by both, names 1 and 3 by generation 0, name 2 by generation 1. Line 7
 -- takes the servers of names 0, 1 and 3
@@ -150,11 +158,12 @@ exhibits = record {
         (0, refl),
   );
   close_done = occurs _ 60 (by 0 (move.close 0)) refl (0, refl, refl);
-  close_pins = occurs _ 56 (by 0 (move.close 0)) refl (0, 3, refl, refl, omega arith);
+  close_pins = occurs _ 56 (by 0 (move.close 0)) refl (0, 3, 2, refl, refl, refl, omega arith, omega arith);
   close_already = occurs _ 61 (by 0 (move.close 0)) refl (0, refl, refl);
   begin_false = occurs _ 2 (by 0 move.begin) refl (refl, refl);
   ended = occurs _ 3 (by 1 move.end) refl refl;
   looked = occurs _ 5 (by 0 move.look) refl refl;
+  publishes = occurs _ 27 (by 0 (move.publish 1)) refl (0, omega arith, refl);
   removes = occurs _ 66 (by 1 (move.publish 3)) refl refl;
   see_unborn = occurs _ 6 (by 0 (move.see 0)) refl (0, refl, refl);
   see_lost = occurs _ 23 (by 0 (move.see 0)) refl (0, 7, refl, refl);
@@ -211,69 +220,277 @@ abbrev state : ℕ → ℕ → (ℕ → ℕ) → (ℕ → ℕ) → List View →
 state number right pins name views =
     record { number = number; right = right; pins = pins; name = name; home = λ _. empty; views = views }
 
--- a number above q + 1; a closed generation that is still published; a published one with an Unborn name
-number_breaks : Breaks (λ f k s. Number f s)
-number_breaks = (file, start, state 4 0 (λ _. 0) (λ _. 0) [], rest, λ r. let t = r.top in omega arith)
+-- where there is no actor, one, or two
+nobody : (j : ℕ) (w : View) → get_elem? [] j ≡ some w → ⊥
+nobody j w e = some-ne-none w (sym e)
 
-pins_break : Breaks (λ f k s. Pins f s)
-pins_break = (
-  file,
-  start,
-  state 1 0 (λ _. 9223372036854775808) (λ _. 0) [],
-  rest,
-  λ r. let t = (r.closed 0 (omega arith)
-      (omega arith)).0 in omega arith,
-)
+only : (x : View) (P : View → Type 0) → P x → (j : ℕ) (w : View) → get_elem? (x ∷ []) j ≡ some w → P w
+only x P p zero w e = subst P (some-injective x w e) p
+only x P p (suc j) w e = absurd (nobody j w e)
 
-born_breaks : Breaks (λ f k s. Born f s)
-born_breaks = (
-  file,
-  start,
-  state 1 0 (λ _. 0) (λ _. 0) [],
-  rest,
-  λ r. r.published 0 (omega arith) refl 0
-      (omega arith) refl refl,
-)
+each_of : (x y : View) (P : View → Type 0) → P x → P y → (j : ℕ) (w : View) → get_elem? (x ∷ y ∷ []) j ≡ some w → P w
+each_of x y P p q zero w e = subst P (some-injective x w e) p
+each_of x y P p q (suc j) w e = only y P q j w e
 
--- an actor that has seen closed what is open
+-- an actor that has met nothing
+often_none : (a : Answer) → often a nothing_met ≡ 0
+often_none (answer.number n) = refl
+often_none a = refl
+
+-- whose own Met is all that it has
+own_alone : (v : View) → v.gone ≡ [] → (m : Met) → IsMetOf v m → m ≡ v.own
+own_alone v none m is = ⊎_elim (λ e. e)
+    (λ t. absurd (nobody_met m t.0 (subst (λ z. get_elem? z t.0 ≡ some m) none t.1))) is
+  where
+    nobody_met : (m : Met) (i : ℕ) → get_elem? [] i ≡ some m → ⊥
+    nobody_met m i e = some-ne-none m (sym e)
+
+-- it has seen its own number alone
+seen_alone : (v : View) → v.gone ≡ [] → v.own.numbers ≡ [] → (m : ℕ) → HasSeen v m → m ≡ v.seen.number
+seen_alone v none bare m saw = ⊎_elim (λ e. e) (λ t. let e = ap (λ (z : Met). z.numbers) (own_alone v none t.0 t.1) in
+    let h = subst (λ z. 0 < times m z) (e ∙ bare) t.2 in absurd (omega arith)) saw
+
+-- an actor that has seen this; one with a pin on g; one that is inside of this
+abbrev seer : Seen → View
+seer seen = fresh 1 [] seen
+
+abbrev pinner : (g seen : ℕ) → View
+pinner g seen = record (fresh 1 [] (record nothing_seen { number = seen })) { hold = g + 1 }
+
+abbrev builder : Build → View
+builder b = record (fresh 1 [] nothing_seen) { build = b }
+
+abbrev insider : Inside → View
+insider i = record (fresh 1 [] nothing_seen) { inside = i }
+
+pinned_is : (g seen h : ℕ) → 0 < live h (pinner g seen) → h ≡ g
+pinned_is g seen h l = dite (ℕ_discrete (g + 1) (h + 1)) (λ e. omega arith)
+    (λ ne. let a = bit_not (g + 1) (h + 1) ne in let b : bit 0 (h + 1) ≡ 0 = bit_not 0 (h + 1) (λ e. omega arith) in
+    absurd (omega arith))
+
+-- a number above q + 1; one below a number that was seen; a holder of the right that last looked at another number
+old_look : View
+old_look = record (builder (record nothing_built { right = 1; looked = 1 })) { last = 1 }
+
+number_needs : NumberNeeds
+unfolding old_look
+number_needs = record {
+  top = (
+    file,
+    start,
+    state 4 0 (λ _. 0) (λ _. 0) [],
+    rest,
+    ((λ j v e. absurd (nobody j v e)), λ j v e. absurd (nobody j v e)),
+    λ r. let t = r.top in omega arith,
+  );
+  seen = (
+    file,
+    start,
+    state 0 0 (λ _. 0) (λ _. 0) (pinner 0 1 ∷ []),
+    rest,
+    (
+      omega arith,
+      only (pinner 0 1) _ (λ h. absurd (omega arith)),
+    ),
+    λ r. let t = r.seen 0 (pinner 0 1) refl 1 (inl refl) in omega arith,
+  );
+  holder = (
+    file,
+    start,
+    state 1 1 (λ _. 0) (λ _. 0) (old_look ∷ []),
+    rest,
+    (
+      omega arith,
+      only old_look _
+          (λ m saw. let e = seen_alone old_look refl refl m saw in omega arith),
+    ),
+    λ r. let t = r.holder 0 old_look refl refl refl in omega arith,
+  );
+}
+
+-- a closed generation that is still published; a pin on a closed one; a pin on no generation; a pin on one that its
+-- actor hasn't seen
+pins_need : PinsNeed
+pins_need = record {
+  passed = (
+    file,
+    start,
+    state 1 0 (λ _. 9223372036854775808) (λ _. 0) [],
+    rest,
+    (
+      (λ g l c j v e. absurd (nobody j v e)),
+      (λ j v e. absurd (nobody j v e)),
+      (λ j v e. absurd (nobody j v e)),
+      λ j v e. absurd (nobody j v e),
+    ),
+    λ r. let t = r.passed 0 (omega arith) (omega arith) in omega arith,
+  );
+  bare = (
+    file,
+    start,
+    state 3 0 (λ _. 9223372036854775808) (λ _. 0) (pinner 0 1 ∷ []),
+    rest,
+    (
+      (λ g l c. omega arith),
+      only (pinner 0 1) _
+          (λ g l. let e = pinned_is 0 1 g l in omega arith),
+      only (pinner 0 1) _
+          (λ g l. let e = pinned_is 0 1 g l in inl (omega arith)),
+    ),
+    λ r. r.stays_open 0 (pinner 0 1) refl 0 (omega arith) (omega arith),
+  );
+  stage = (
+    file,
+    start,
+    state 1 0 (λ _. 0) (λ _. 0) (pinner 7 8 ∷ []),
+    rest,
+    (
+      (λ g l c. absurd (omega arith)),
+      (λ g l c. absurd (omega arith)),
+      (λ j v e g l c. omega arith),
+      only (pinner 7 8) _
+          (λ g l. let e = pinned_is 7 8 g l in inl (omega arith)),
+    ),
+    λ r. let t = r.stage 0 (pinner 7 8) refl 7 (omega arith) in omega arith,
+  );
+  seen = (
+    file,
+    start,
+    state 1 0 (λ _. 0) (λ _. 0) (pinner 0 0 ∷ []),
+    rest,
+    (
+      (λ g l c. absurd (omega arith)),
+      (λ g l c. absurd (omega arith)),
+      only (pinner 0 0) _
+          (λ g l. let e = pinned_is 0 0 g l in omega arith),
+      λ j v e g l c. omega arith,
+    ),
+    λ r. let t = seen_alone (pinner 0 0) refl refl 1 (r.seen 0 (pinner 0 0) refl 0 (omega arith)) in omega arith,
+  );
+}
+
+-- a published generation with an Unborn name; one whose number was seen
+born_needs : BornNeeds
+born_needs = record {
+  published = (
+    file,
+    start,
+    state 1 0 (λ _. 0) (λ _. 0) [],
+    rest,
+    (λ j v e. absurd (nobody j v e)),
+    λ r. r.published 0 (omega arith) refl 0 (omega arith) refl refl,
+  );
+  seen = (
+    file,
+    start,
+    state 0 0 (λ _. 0) (λ _. 0) (pinner 0 1 ∷ []),
+    rest,
+    (λ g l e. absurd (omega arith)),
+    λ r. r.seen 0 (pinner 0 1) refl 0 (omega arith) (inl refl) 0 (omega arith) refl refl,
+  );
+}
+
+-- an actor that has seen closed what is open; seen born what is Unborn; dropped what isn't Dropped
 abbrev sees_shut : View
-sees_shut = fresh 1 [] (record nothing_seen { shut = 0 ∷ [] })
+sees_shut = seer (record nothing_seen { shut = 0 ∷ [] })
 
-seen_breaks : Breaks (λ f k s. kept.Seen f s)
-seen_breaks = (
-  file,
-  start,
-  state 0 0 (λ _. 0) (λ _. 0) (sees_shut ∷ []),
-  rest,
-  λ r. let t = r.closed 0 sees_shut refl 0 (omega arith)
-      (omega arith) in omega arith,
-)
+abbrev sees_born : View
+sees_born = seer (record nothing_seen { born = 0 ∷ [] })
 
--- a builder that was answered Unborn for a name that is Here
+abbrev sees_dropped : View
+sees_dropped = seer (record nothing_seen { dropped = 0 ∷ [] })
+
+seen_needs : SeenNeeds
+seen_needs = record {
+  closed = (
+    file,
+    start,
+    state 0 0 (λ _. 0) (λ _. 0) (sees_shut ∷ []),
+    rest,
+    (
+      only sees_shut _ (λ n h. absurd (omega arith)),
+      only sees_shut _ (λ n h. absurd (omega arith)),
+    ),
+    λ r. let t = r.closed 0 sees_shut refl 0 (omega arith) (omega arith) in omega arith,
+  );
+  born = (
+    file,
+    start,
+    state 0 0 (λ _. 0) (λ _. 0) (sees_born ∷ []),
+    rest,
+    (
+      only sees_born _ (λ g l h. absurd (omega arith)),
+      only sees_born _ (λ n h. absurd (omega arith)),
+    ),
+    λ r. r.born 0 sees_born refl 0 (omega arith) refl,
+  );
+  dropped = (
+    file,
+    start,
+    state 0 0 (λ _. 0) (λ _. 0) (sees_dropped ∷ []),
+    rest,
+    (
+      only sees_dropped _ (λ g l h. absurd (omega arith)),
+      only sees_dropped _ (λ n h. absurd (omega arith)),
+    ),
+    λ r. let t = r.dropped 0 sees_dropped refl 0 (omega arith) in omega arith,
+  );
+}
+
+-- a builder that was answered Unborn, and one that was answered Lost, for a name that is Here
 abbrev sees_unborn : View
-sees_unborn = record (fresh 1 [] nothing_seen) { build = record nothing_built { right = 1; unborn = 0 ∷ [] } }
+sees_unborn = builder (record nothing_built { right = 1; unborn = 0 ∷ [] })
 
-builder_breaks : Breaks (λ f k s. Builder f s)
-builder_breaks = (
-  file,
-  start,
-  state 0 1 (λ _. 0) (λ _. 1) (sees_unborn ∷ []),
-  rest,
-  λ r. ⊎_elim (λ e. omega arith) (λ t. let e = t.0 in omega arith)
-      (r.unborn 0 sees_unborn refl refl 0 (omega arith)),
-)
+abbrev sees_lost : View
+sees_lost = builder (record nothing_built { right = 1; lost = 0 ∷ [] })
 
--- a Dropped name of an open generation; a Lost name without its lose line; a name that is Here with an empty slot
-dropped_breaks : Breaks (λ f k s. Dropped f s)
-dropped_breaks = (
-  file,
-  start,
-  state 2 0 (λ _. 0) (λ _. 3) [],
-  rest,
-  λ r. let t = r.done 0 (omega arith) refl 0
-      (omega arith) refl in omega arith,
-)
+builder_needs : BuilderNeeds
+builder_needs = record {
+  unborn = (
+    file,
+    start,
+    state 0 1 (λ _. 0) (λ _. 1) (sees_unborn ∷ []),
+    rest,
+    only sees_unborn _ (λ h n l. absurd (omega arith)),
+    λ r. ⊎_elim (λ e. omega arith) (λ t. let e = t.0 in omega arith)
+        (r.unborn 0 sees_unborn refl refl 0 (omega arith)),
+  );
+  lost = (
+    file,
+    start,
+    state 0 1 (λ _. 0) (λ _. 1) (sees_lost ∷ []),
+    rest,
+    only sees_lost _ (λ h n l. absurd (omega arith)),
+    λ r. ⊎_elim (λ l. omega arith) (λ t. ⊎_elim (λ e. omega arith) (λ q. let e = q.0 in omega arith) t)
+        (r.lost 0 sees_lost refl refl 0 (omega arith)),
+  );
+}
 
+-- a Dropped name of an open generation; one Taken in a drop
+abbrev drops_first : View
+drops_first = insider (record outside { dropping = 1 })
+
+dropped_needs : DroppedNeeds
+dropped_needs = record {
+  done = (
+    file,
+    start,
+    state 2 0 (λ _. 0) (λ _. 3) [],
+    rest,
+    (λ j v e. absurd (nobody j v e)),
+    λ r. let t = r.done 0 (omega arith) refl 0 (omega arith) refl in omega arith,
+  );
+  doing = (
+    file,
+    start,
+    state 2 0 (λ _. 0) (λ _. 2) (drops_first ∷ []),
+    rest,
+    (λ n l e. absurd (omega arith)),
+    λ r. let t = r.doing 0 drops_first refl 0 refl 0 (omega arith) refl in omega arith,
+  );
+}
+
+-- a Lost name without its lose line
 losses_break : Breaks (λ f k s. Losses f s)
 losses_break = (file, start, state 2 0 (λ _. 0) (λ _. 4) [], rest, λ r. let t = r 1 0 (omega arith) refl in omega arith)
 
@@ -284,20 +501,155 @@ empty_cell : (f : File) (n : ℕ) → HasCell f n empty → ⊥
 unfolding HasCell Unharmed
 empty_cell f n h = empty_keeps (f.cell n) (h tt)
 
-cells_break : Breaks (λ f k s. Cells f s)
-cells_break = (file, start, state 2 0 (λ _. 0) (λ _. 1) [], rest, λ r. empty_cell file 0 (r.here 0 (omega arith) refl))
+-- the file with fewer names, at rest
+abbrev few : ℕ → File
+few m = record file { names = m }
 
-pub each_breaks : EachBreaks
-each_breaks = (
-  number_breaks,
-  pins_break,
-  born_breaks,
-  seen_breaks,
-  builder_breaks,
-  dropped_breaks,
-  losses_break,
-  cells_break,
-)
+few_rest : (m : ℕ) → Rest (few m) start
+few_rest m = record {
+  number = omega arith;
+  closed = λ g l e. absurd (false_true e);
+  born = λ g l e n i h. absurd (omega arith);
+  settled = λ n l e. omega arith;
+  dropped = λ n l e. absurd (omega arith);
+  lost = λ n i l e. absurd (omega arith);
+  here = λ n l e. absurd (omega arith);
+  bare = λ n l e. refl;
+}
+
+-- actors inside a birth, and a get, of the first name
+abbrev bears_first : View
+bears_first = insider (record outside { bearing = 1 })
+
+abbrev gets_first : View
+gets_first = insider (record outside { getting = 1 })
+
+bears_is : (n : ℕ) → HasTaken bears_first n → n ≡ 0
+bears_is n h = ⊎_elim (λ e. absurd (omega arith)) (λ a. ⊎_elim (λ e. omega arith) (λ b. ⊎_elim
+    (λ e. absurd (omega arith)) (λ c. ⊎_elim (λ e. absurd (omega arith)) (λ e. absurd (omega arith)) c) b) a) h
+
+gets_is : (n : ℕ) → HasTaken gets_first n → n ≡ 0
+gets_is n h = ⊎_elim (λ e. omega arith) (λ a. ⊎_elim (λ e. absurd (omega arith)) (λ b. ⊎_elim
+    (λ e. absurd (omega arith)) (λ c. ⊎_elim (λ e. absurd (omega arith)) (λ e. absurd (omega arith)) c) b) a) h
+
+-- a fact of two actors is one of the only one
+one_alone : (x : View) (i j : ℕ) (u v : View) → get_elem? (x ∷ []) i ≡ some u → get_elem? (x ∷ []) j ≡ some v → i ≡ j
+one_alone x zero zero u v e d = refl
+one_alone x (suc i) j u v e d = absurd (nobody i u e)
+one_alone x zero (suc j) u v e d = absurd (nobody j v d)
+
+-- a birth is held by who is inside of it
+bears_held : (f : File) → (n : ℕ) → HasTaken bears_first n → PinHolds f 0 0 n ⊎ IsInside bears_first n
+bears_held f n h = let z = bears_is n h in inr (inl (omega arith))
+
+-- a name that is Here with an empty slot; one Taken by nobody, by two, that is none, whose word isn't Taken, and whose
+-- taker has no pin
+cells_need : CellsNeed
+cells_need = record {
+  here = (
+    file,
+    start,
+    state 2 0 (λ _. 0) (λ _. 1) [],
+    rest,
+    (
+      (λ n l e. absurd (omega arith)),
+      (λ i j u v e. absurd (nobody i u e)),
+      (λ j v e. absurd (nobody j v e)),
+      (λ j v e. absurd (nobody j v e)),
+      λ j v e. absurd (nobody j v e),
+    ),
+    λ r. empty_cell file 0 (r.here 0 (omega arith) refl),
+  );
+  taken = (
+    file,
+    start,
+    state 2 0 (λ _. 0) (λ _. 2) [],
+    rest,
+    (
+      (λ n l e. absurd (omega arith)),
+      (λ i j u v e. absurd (nobody i u e)),
+      (λ j v e. absurd (nobody j v e)),
+      (λ j v e. absurd (nobody j v e)),
+      λ j v e. absurd (nobody j v e),
+    ),
+    λ r. let t = r.taken 0 (omega arith) refl in nobody t.0 t.1 t.2,
+  );
+  one = (
+    few 1,
+    start,
+    state 0 0 (λ _. 0) (λ _. 2) (bears_first ∷ bears_first ∷ []),
+    few_rest 1,
+    (
+      (λ n l e. absurd (omega arith)),
+      (λ n l e. (0, bears_first, refl, inr (inl (omega arith)))),
+      each_of bears_first bears_first (λ w. (n : ℕ) → HasTaken w n → n < 1)
+          (λ n h. let z = bears_is n h in omega arith) (λ n h. let z = bears_is n h in omega arith),
+      (λ j v e n h. refl),
+      each_of bears_first bears_first (λ w. (n : ℕ) → HasTaken w n → PinHolds (few 1) w.hold w.work n ⊎ IsInside w n)
+          (bears_held (few 1)) (bears_held (few 1)),
+    ),
+    λ r. let t = r.one 0 1 bears_first bears_first refl refl 0 (inr (inl refl)) (inr (inl refl)) in omega arith,
+  );
+  named = (
+    few 0,
+    start,
+    state 0 0 (λ _. 0) (λ _. 2) (bears_first ∷ []),
+    few_rest 0,
+    (
+      (λ n l e. absurd (omega arith)),
+      (λ n l e. absurd (omega arith)),
+      (λ i j u v e d n h k. one_alone bears_first i j u v e d),
+      (λ j v e n h. refl),
+      only bears_first _ (bears_held (few 0)),
+    ),
+    λ r. let t = r.named 0 bears_first refl 0 (inr (inl refl)) in omega arith,
+  );
+  marked = (
+    few 1,
+    start,
+    state 0 0 (λ _. 0) (λ _. 0) (bears_first ∷ []),
+    few_rest 1,
+    (
+      (λ n l e. absurd (omega arith)),
+      (λ n l e. absurd (omega arith)),
+      (λ i j u v e d n h k. one_alone bears_first i j u v e d),
+      only bears_first _ (λ n h. let z = bears_is n h in omega arith),
+      only bears_first _ (bears_held (few 1)),
+    ),
+    λ r. let t = r.marked 0 bears_first refl 0 (inr (inl refl)) in omega arith,
+  );
+  held = (
+    few 1,
+    start,
+    state 0 0 (λ _. 0) (λ _. 2) (gets_first ∷ []),
+    few_rest 1,
+    (
+      (λ n l e. absurd (omega arith)),
+      (λ n l e. (0, gets_first, refl, inl (omega arith))),
+      (λ i j u v e d n h k. one_alone gets_first i j u v e d),
+      only gets_first _ (λ n h. let z = gets_is n h in omega arith),
+      λ j v e n h. refl,
+    ),
+    λ r. ⊎_elim (λ p. unpinned p) (λ a. ⊎_elim (λ e. omega arith) (λ b. ⊎_elim (λ e. omega arith)
+        (λ c. ⊎_elim (λ e. omega arith) (λ e. omega arith) c) b) a)
+        (r.held 0 gets_first refl 0 (inl refl)),
+  );
+}
+  where
+    unpinned : PinHolds (few 1) 0 0 0 → ⊥
+    unpinned p = let z = bit_not 0 (p.0 + 1) (λ e. omega arith) in let h = p.2 in omega arith
+
+pub each_needs : EachNeeds
+each_needs = record {
+  number = number_needs;
+  pins = pins_need;
+  born = born_needs;
+  seen = seen_needs;
+  builder = builder_needs;
+  dropped = dropped_needs;
+  losses = losses_break;
+  cells = cells_need;
+}
 
 -- an actor that made this; one that was answered this
 abbrev maker : Made → View
@@ -425,11 +777,29 @@ uncaused k rests a never = (
   k,
   state 0 0 (λ _. 0) (λ _. 0) (told a ∷ []),
   rests,
-  λ r. never (r 0 (told a) refl (let e = often_here a nothing_met in omega arith)),
+  (
+    (λ b ne. only (told a) _ (λ m is h. absurd (not_met b ne m is h))),
+    only (told a) _ (λ h. absurd (omega arith)),
+    only (told a) _
+        (λ g h. let z = bit_not 0 (g + 1) (λ e. omega arith) in absurd (omega arith)),
+  ),
+  λ r. never (r.answers a 0 (told a) refl (enter a nothing_met) (inl refl)
+      (let e = often_here a nothing_met in omega arith)),
 )
+  where
+    not_met : (b : Answer) → b ≢ a → (m : Met) → IsMetOf (told a) m → 0 < often b m → ⊥
+    not_met b ne m is h = let e = own_alone (told a) refl m is in
+        let o = often_else a b nothing_met (λ x. ne (sym x)) in let z = often_none b in
+        let l = subst (λ z. 0 < often b z) e h in omega arith
 
-pub caused_breaks : CausedBreaks
-caused_breaks = record {
+-- who has met nothing has no answer without a cause
+nothing_to_cause : (k : Opening) (s : State) (v : View) → v.gone ≡ [] → v.own ≡ nothing_met → (a : Answer) (m : Met)
+    → IsMetOf v m → 0 < often a m → Cause k s m a
+nothing_to_cause k s v none bare a m is h = let e = own_alone v none m is ∙ bare in let z = often_none a in
+    let l = subst (λ z. 0 < often a z) e h in absurd (omega arith)
+
+pub caused_needs : CausedNeeds
+caused_needs = record {
   gate = (
     uncaused start rest (answer.number 1) (λ c. ⊎_elim (λ e. omega arith) (λ h. omega arith) c),
     uncaused start rest answer.refused (λ c. omega arith),
@@ -455,14 +825,24 @@ caused_breaks = record {
     start,
     state 0 1 (λ _. 0) (λ _. 0) (sees_unborn ∷ []),
     rest,
-    λ r. let t = r 0 sees_unborn refl refl in
-        omega arith,
+    (
+      (λ a. only sees_unborn _
+          (nothing_to_cause start (state 0 1 (λ _. 0) (λ _. 0) (sees_unborn ∷ [])) sees_unborn refl refl a)),
+      only sees_unborn _
+          (λ g h. let z = bit_not 0 (g + 1) (λ e. omega arith) in absurd (omega arith)),
+    ),
+    λ r. let t = r.right 0 sees_unborn refl refl in omega arith,
   );
   pin = (
     file,
     start,
-    state 1 0 (λ _. 1) (λ _. 0) (record (fresh 1 [] nothing_seen) { hold = 1 } ∷ []),
+    state 1 0 (λ _. 1) (λ _. 0) (pinner 0 0 ∷ []),
     rest,
-    λ r. let t = r 0 (record (fresh 1 [] nothing_seen) { hold = 1 }) refl 0 (omega arith) in omega arith,
+    (
+      (λ a. only (pinner 0 0) _
+          (nothing_to_cause start (state 1 0 (λ _. 1) (λ _. 0) (pinner 0 0 ∷ [])) (pinner 0 0) refl refl a)),
+      only (pinner 0 0) _ (λ h. absurd (omega arith)),
+    ),
+    λ r. let t = r.pin 0 (pinner 0 0) refl 0 (omega arith) in omega arith,
   );
 }

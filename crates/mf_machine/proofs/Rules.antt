@@ -96,14 +96,14 @@ module _ (f : File) (k : Opening) (s : State) (rest : Rest f k) (r : Ruled f k s
 
   pub pins : Pins f s
   pins = record {
-    closed = λ g l h. let t = (r.words.pins g l).low (closed_to g l h) in
-        let z = t.1 in (t.0, λ j v at. let a = total_at (live g) s.views j v at in omega arith);
-    pinned = λ j v at g h. let t = (r.each j v at).pins g h in (
-      t.0,
-      (λ c. let z = ((r.words.pins g t.0).low (closed_to g t.0 c)).1 in
-          let a = total_at (live g) s.views j v at in omega arith),
-      inr (v.own, inl refl, t.1),
-    );
+    passed = λ g l h. ((r.words.pins g l).low (closed_to g l h)).0;
+    bare = λ g l h j v at. let z = ((r.words.pins g l).low (closed_to g l h)).1 in
+        let a = total_at (live g) s.views j v at in omega arith;
+    stage = λ j v at g h. ((r.each j v at).pins g h).0;
+    stays_open = λ j v at g h c. let l = ((r.each j v at).pins g h).0 in
+        let z = ((r.words.pins g l).low (closed_to g l c)).1 in
+        let a = total_at (live g) s.views j v at in omega arith;
+    seen = λ j v at g h. inr (v.own, inl refl, ((r.each j v at).pins g h).1);
   }
 
   pub born : Born f s
@@ -151,26 +151,23 @@ module _ (f : File) (k : Opening) (s : State) (rest : Rest f k) (r : Ruled f k s
         (r.each j v at).own ((r.each j v at).inside.dropping n e).1 g b h);
   }
 
+  -- two actors that have it Taken are one
+  one_taker : (i j : ℕ) (u v : View) → IsActor s i u → IsActor s j v → (n : ℕ) → HasTaken u n → HasTaken v n → i ≡ j
+  one_taker i j u v iu at n hu h = dite (ℕ_discrete i j) (λ e. e)
+      (λ ne. let l = inside_low j v at n h in let two = total_two (takers n) s.views j i v u ne at iu in
+      let a = some_takers n u hu in let d = some_takers n v h in let c = takers_parts n s.views in
+      let t = (r.words.names n l).taken in let b = bit_le (s.name n) 2 in absurd (omega arith))
+
   pub cells : Cells f s
   cells = record {
     here = λ n l e. (r.words.names n l).here e;
     taken = λ n l e. let t = (r.words.names n l).taken in let b = bit_is (s.name n) 2 e in
         let c = takers_parts n s.views in
-        let o = total_some (takers n) s.views (omega arith) in (
-          o.0,
-          o.1,
-          o.2,
-          takers_some n o.1 o.3,
-          λ i u at h. dite (ℕ_discrete i o.0) (λ e. e)
-              (λ ne. let two = total_two (takers n) s.views o.0 i o.1 u ne o.2 at in let a = some_takers n u h in
-              let d = o.3 in absurd (omega arith)),
-        );
-    held = λ j v at n h. let l = inside_low j v at n h in (
-      l,
-      taken_word j v at n l h,
-      ⊎_elim (λ e. inl ((r.each j v at).inside.getting n e).1)
-          (λ t. inr t) h,
-    );
+        let o = total_some (takers n) s.views (omega arith) in (o.0, o.1, o.2, takers_some n o.1 o.3);
+    one = one_taker;
+    named = inside_low;
+    marked = λ j v at n h. taken_word j v at n (inside_low j v at n h) h;
+    held = λ j v at n h. ⊎_elim (λ e. inl ((r.each j v at).inside.getting n e).1) (λ t. inr t) h;
   }
 
   pub accounted : Accounted f k s
@@ -277,7 +274,7 @@ module _ (f : File) (k : Opening) (s : State) (rest : Rest f k) (r : Ruled f k s
     cells = cells;
     accounted = accounted;
     caused = record {
-      answers = λ j v at m is. causes m (met_is j v at m is);
+      answers = λ a j v at m is. causes m (met_is j v at m is) a;
       right = λ j v at h. (r.each j v at).right.has h;
       pin = λ j v at g h. ((r.each j v at).pins g h).2;
     };

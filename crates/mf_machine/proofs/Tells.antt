@@ -106,7 +106,7 @@ answers_fit f k w reach id = let g = reached f k w reach in let s : State = read
       birth = λ n may. ⊎_elim (λ e. e) (λ e. let free = may.1 in
           absurd (omega arith)) ((r.each id v (here w id may.0)).build.unborn may.3.1.0 n may.4);
       retake = λ n may. still_lost f k s r id v (here w id may.0) n may.1 may.2 may.3 may.4;
-      returns = λ n active inside. ((law f k w reach).0.cells.held id v (here w id active) n inside).1;
+      returns = λ n active inside. (law f k w reach).0.cells.marked id v (here w id active) n inside;
     }
 
 -- a lose line stays one where others come

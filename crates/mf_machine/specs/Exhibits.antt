@@ -1,5 +1,5 @@
--- No guard is too strong: a run in which each step is made and each answer given. No rule is empty: for each clause of
--- the rules a state that breaks it.
+-- No guard is too strong: a run in which each step is made and each answer given. No clause of the rules is idle: for
+-- each a state that breaks it; and but for those of *Accounted* it meets the other clauses of its rule.
 use Rattle.std.specs.Prelude.{◌≡◌, ◌≢◌, ℕ, ◌<◌, true, false, List, ◌∷◌, ◌++◌, length}
 use Rattle.mf_machine.specs.declared.answer.Closed.TheVariants as closing
 use Rattle.mf_machine.specs.declared.answer.LoseStep.TheVariants as losing
@@ -8,21 +8,25 @@ use Rattle.mf_machine.specs.declared.answer.State.TheVariants as told
 use Rattle.mf_machine.specs.declared.view.Met.{Met}
 use Rattle.mf_machine.specs.declared.view.View.{View}
 use Rattle.mf_machine.specs.Answers as answer
-use Rattle.mf_machine.specs.Answers.{Answer, often}
-use Rattle.mf_machine.specs.Actors.{Among, HasRight, live, IsFreeSlot, IsPinnedOn, NextHolds}
+use Rattle.mf_machine.specs.Answers.{Answer, pinned, often}
+use Rattle.mf_machine.specs.Actors.{live, IsFreeSlot, IsPinnedOn, NextHolds}
 use Rattle.mf_machine.specs.File.{File, Home, Opening, State, name_word, removed}
-use Rattle.mf_machine.specs.Kept.{IsActor, IsInside, Number, Pins, Born, Seen, Builder, Dropped, Losses}
-use Rattle.mf_machine.specs.Kept.{Cells, NumberGiven, Greatest, PublishedOnce, ClosedOnce, PutOnce, DroppedOnce}
-use Rattle.mf_machine.specs.Kept.{ClosedBy, UnbornStill, DroppedBy, LostOnceMore, LostAsOften, LineGiven, Cause}
+use Rattle.mf_machine.specs.Kept.{IsInside, Number, NumberTop, NumberSeen, NumberHeld, Pins, ClosedPassed, ClosedBare}
+use Rattle.mf_machine.specs.Kept.{PinnedIs, PinnedOpen, PinnedSeen, Born, BornPublished, BornSeen, Seen, SeenClosed}
+use Rattle.mf_machine.specs.Kept.{SeenBorn, SeenDropped, Builder, UnbornToBuilder, LostToBuilder, Dropped}
+use Rattle.mf_machine.specs.Kept.{DroppedClosed, DroppingClosed, Losses, Cells, HereIsCell, TakenBySome, TakenByOne}
+use Rattle.mf_machine.specs.Kept.{TakenIsName, TakenIsTaken, TakenIsHeld, NumberGiven, Greatest, PublishedOnce}
+use Rattle.mf_machine.specs.Kept.{ClosedOnce, PutOnce, DroppedOnce, ClosedBy, UnbornStill, DroppedBy, LostOnceMore}
+use Rattle.mf_machine.specs.Kept.{LostAsOften, LineGiven, AnswerCaused, RightBegun, PinOpened, Caused}
 use Rattle.mf_machine.specs.Laws.{IsLast}
 use Rattle.mf_machine.specs.Moves.{Move, Deed, look, pin, unpin, close, begin, end, publish, see, take, give, birth}
 use Rattle.mf_machine.specs.Moves.{born, lose, lost, retake, restored, drop, drop_again, dropped, exchange, split, join}
-use Rattle.mf_machine.specs.Moves.{Runs, run}
+use Rattle.mf_machine.specs.Moves.{by, after, Runs, run}
 use Rattle.mf_machine.specs.Rest.{Rest}
 use Rattle.mf_machine.specs.Steps.{pin_answer, close_answer, begin_answer, see_answer, take_answer, chunk, gone, again}
 use Rattle.mf_machine.specs.Steps.{lose_answer, drop_answer, drops, tries, nothing, drop_again_answer}
 use Rattle.mf_machine.specs.Words as word
-use Rattle.mf_machine.specs.Words.{pins_word, right_word, filled}
+use Rattle.mf_machine.specs.Words.{pins_word, right_word, number_of, filled}
 use Rattle.mf_machine.specs.Worlds.{World, Opens, read, word_of, actor}
 
 -- somewhere in the run, P holds of the world, of the actor and of what it does next
@@ -59,14 +63,16 @@ pub record Exhibits (f : File) (w : World) (ms : List Move) : Type 0 where
   pub unpinned : Done (unpin Hold) f w ms × Done (unpin Work) f w ms
   -- a close of a generation without pins, one that met another's pins, and one of a closed generation
   pub close_done : Answered close pins_word close_answer closing.Done f w ms
-  pub close_pins : Occurs (λ s id d. (g n : ℕ) × (d ≡ close g)
-      × (close_answer (word_of s (pins_word g)) ≡ closing.Pins n)
-      × (live g (actor s id) < n)) f w ms
+  -- the own pins noted beside the second are fewer than those that it met
+  pub close_pins : Occurs (λ s id d. (g n own : ℕ) × (d ≡ close g)
+      × (close_answer (word_of s (pins_word g)) ≡ closing.Pins n) × (live g (actor s id) ≡ own) × (own < n)
+      × (0 < often (pinned g n own) (actor (after f s (by id d)) id).own)) f w ms
   pub close_already : Answered close pins_word close_answer closing.Already f w ms
-  -- the right refused and given back, a look, and the file removed
+  -- the right refused and given back, a look, a generation published, and the file removed
   pub begin_false : Occurs (λ s id d. (d ≡ begin) × (begin_answer (word_of s right_word) ≡ false)) f w ms
   pub ended : Occurs (λ s id d. d ≡ end) f w ms
   pub looked : Occurs (λ s id d. d ≡ look) f w ms
+  pub publishes : Occurs (λ s id d. (g : ℕ) × (g < f.stages) × (d ≡ publish (number_of g))) f w ms
   pub removes : Occurs (λ s id d. d ≡ publish (removed f)) f w ms
   -- a see told Unborn, Lost, and Here, the latter while another actor is inside of the very name
   pub see_unborn : Answered see (name_word f) see_answer told.Unborn f w ms
@@ -117,16 +123,76 @@ abbrev pub SomeRun : Type 0
 SomeRun = (f : File) × (k : Opening) × (first : World) × (ms : List Move)
     × Rest f k × Opens f k first × Runs f first ms × Exhibits f first ms
 
--- some state breaks the rule
+-- some state breaks the clause
 abbrev pub Breaks : (File → Opening → State → Type 0) → Type 0
-Breaks rule = (f : File) × (k : Opening) × (s : State) × Rest f k × (rule f k s → ⊥)
+Breaks clause = (f : File) × (k : Opening) × (s : State) × Rest f k × (clause f k s → ⊥)
 
--- each of the first eight rules
-abbrev pub EachBreaks : Type 0
-EachBreaks =
-    Breaks (λ f k s. Number f s) × Breaks (λ f k s. Pins f s) × Breaks (λ f k s. Born f s)
-    × Breaks (λ f k s. Seen f s) × Breaks (λ f k s. Builder f s) × Breaks (λ f k s. Dropped f s)
-    × Breaks (λ f k s. Losses f s) × Breaks (λ f k s. Cells f s)
+-- a clause of a rule isn't idle: some state meets the others of the rule, and not the rule
+abbrev pub Needs : (rule others : File → Opening → State → Type 0) → Type 0
+Needs rule others = (f : File) × (k : Opening) × (s : State) × Rest f k × others f k s × (rule f k s → ⊥)
+
+-- no clause of *Number* is idle
+pub record NumberNeeds : Type 0 where
+  pub top : Needs (λ f k s. Number f s) (λ f k s. NumberSeen s × NumberHeld s)
+  pub seen : Needs (λ f k s. Number f s) (λ f k s. NumberTop f s × NumberHeld s)
+  pub holder : Needs (λ f k s. Number f s) (λ f k s. NumberTop f s × NumberSeen s)
+
+-- nor of *Pins*; that no pin is on a closed generation is one clause said twice
+pub record PinsNeed : Type 0 where
+  pub passed : Needs (λ f k s. Pins f s)
+      (λ f k s. ClosedBare f s × PinnedIs f s × PinnedOpen s × PinnedSeen s)
+  pub bare : Needs (λ f k s. Pins f s) (λ f k s. ClosedPassed f s × PinnedIs f s × PinnedSeen s)
+  pub stage : Needs (λ f k s. Pins f s)
+      (λ f k s. ClosedPassed f s × ClosedBare f s × PinnedOpen s × PinnedSeen s)
+  pub seen : Needs (λ f k s. Pins f s)
+      (λ f k s. ClosedPassed f s × ClosedBare f s × PinnedIs f s × PinnedOpen s)
+
+-- nor of *Born*
+pub record BornNeeds : Type 0 where
+  pub published : Needs (λ f k s. Born f s) (λ f k s. BornSeen f s)
+  pub seen : Needs (λ f k s. Born f s) (λ f k s. BornPublished f s)
+
+-- nor of *Seen*
+pub record SeenNeeds : Type 0 where
+  pub closed : Needs (λ f k s. Seen f s) (λ f k s. SeenBorn s × SeenDropped s)
+  pub born : Needs (λ f k s. Seen f s) (λ f k s. SeenClosed f s × SeenDropped s)
+  pub dropped : Needs (λ f k s. Seen f s) (λ f k s. SeenClosed f s × SeenBorn s)
+
+-- nor of *Builder*
+pub record BuilderNeeds : Type 0 where
+  pub unborn : Needs (λ f k s. Builder f s) (λ f k s. LostToBuilder s)
+  pub lost : Needs (λ f k s. Builder f s) (λ f k s. UnbornToBuilder s)
+
+-- nor of *Dropped*
+pub record DroppedNeeds : Type 0 where
+  pub done : Needs (λ f k s. Dropped f s) (λ f k s. DroppingClosed f s)
+  pub doing : Needs (λ f k s. Dropped f s) (λ f k s. DroppedClosed f s)
+
+-- nor of *Cells*
+pub record CellsNeed : Type 0 where
+  pub here : Needs (λ f k s. Cells f s)
+      (λ f k s. TakenBySome f s × TakenByOne s × TakenIsName f s × TakenIsTaken s × TakenIsHeld f s)
+  pub taken : Needs (λ f k s. Cells f s)
+      (λ f k s. HereIsCell f s × TakenByOne s × TakenIsName f s × TakenIsTaken s × TakenIsHeld f s)
+  pub one : Needs (λ f k s. Cells f s)
+      (λ f k s. HereIsCell f s × TakenBySome f s × TakenIsName f s × TakenIsTaken s × TakenIsHeld f s)
+  pub named : Needs (λ f k s. Cells f s)
+      (λ f k s. HereIsCell f s × TakenBySome f s × TakenByOne s × TakenIsTaken s × TakenIsHeld f s)
+  pub marked : Needs (λ f k s. Cells f s)
+      (λ f k s. HereIsCell f s × TakenBySome f s × TakenByOne s × TakenIsName f s × TakenIsHeld f s)
+  pub held : Needs (λ f k s. Cells f s)
+      (λ f k s. HereIsCell f s × TakenBySome f s × TakenByOne s × TakenIsName f s × TakenIsTaken s)
+
+-- no clause of the first eight rules is idle
+pub record EachNeeds : Type 0 where
+  pub number : NumberNeeds
+  pub pins : PinsNeed
+  pub born : BornNeeds
+  pub seen : SeenNeeds
+  pub builder : BuilderNeeds
+  pub dropped : DroppedNeeds
+  pub losses : Breaks (λ f k s. Losses f s)
+  pub cells : CellsNeed
 
 -- each clause of *Accounted*
 pub record AccountedBreaks : Type 0 where
@@ -143,15 +209,19 @@ pub record AccountedBreaks : Type 0 where
   pub kept : Breaks (λ f k s. (n : ℕ) → n < f.names → LostAsOften k s n)
   pub line : Breaks (λ f k s. (n : ℕ) → n < f.names → LineGiven k s n)
 
--- some state breaks the cause of this answer
-abbrev pub Uncaused : Answer → Type 0
-Uncaused a = Breaks (λ f k s. (j : ℕ) (v : View) → IsActor s j v → 0 < often a v.own → Cause k s v.own a)
+-- each answer but this one has its cause
+abbrev pub OthersCaused : Opening → State → Answer → Type 0
+OthersCaused k s a = (b : Answer) → b ≢ a → AnswerCaused k s b
 
--- each clause of *Caused*
-pub record CausedBreaks : Type 0 where
+-- the cause of this answer isn't idle: some state meets the other clauses of *Caused*, and not the rule
+abbrev pub Uncaused : Answer → Type 0
+Uncaused a = Needs (λ f k s. Caused k s) (λ f k s. OthersCaused k s a × RightBegun s × PinOpened s)
+
+-- no clause of *Caused* is idle
+pub record CausedNeeds : Type 0 where
   pub gate : Uncaused (answer.number 1) × Uncaused answer.refused × Uncaused (answer.missed 0)
       × Uncaused (answer.already 0) × Uncaused (answer.pinned 0 1 0)
   pub told : Uncaused (answer.unborn 0) × Uncaused (answer.here 0) × Uncaused (answer.lost 0 7)
   pub nothing : Uncaused (answer.not_lost 0) × Uncaused (answer.not_dropped 0)
-  pub right : Breaks (λ f k s. (j : ℕ) (v : View) → IsActor s j v → HasRight v.build → 0 < v.own.begun)
-  pub pin : Breaks (λ f k s. (j : ℕ) (v : View) → IsActor s j v → (g : ℕ) → 0 < live g v → Among g v.own.opened)
+  pub right : Needs (λ f k s. Caused k s) (λ f k s. ((a : Answer) → AnswerCaused k s a) × PinOpened s)
+  pub pin : Needs (λ f k s. Caused k s) (λ f k s. ((a : Answer) → AnswerCaused k s a) × RightBegun s)

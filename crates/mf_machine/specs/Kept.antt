@@ -48,60 +48,153 @@ IsInside v n = IsBearing v.inside n ⊎ (IsRetaking v.inside n ⊎ (IsLosing v.i
 abbrev pub HasTaken : View → ℕ → Type 0
 HasTaken v n = IsGetting v.inside n ⊎ IsInside v n
 
--- 1: the published number is at most q + 1 and not below any number that an actor has seen; where the right's holder
--- has looked since its begin, it last looked at this number
+-- the published number is at most q + 1
+abbrev pub NumberTop : File → State → Type 0
+NumberTop f s = s.number ≤ removed f
+
+-- it isn't below any number that an actor has seen
+abbrev pub NumberSeen : State → Type 0
+NumberSeen s = (j : ℕ) (v : View) → IsActor s j v → (m : ℕ) → HasSeen v m → m ≤ s.number
+
+-- where the right's holder has looked since its begin, it last looked at this number
+abbrev pub NumberHeld : State → Type 0
+NumberHeld s = (j : ℕ) (v : View) → IsActor s j v → HasRight v.build → HasLooked v.build → LastLooked v.last s.number
+
+-- 1: the published number
 pub record Number (f : File) (s : State) : Type 0 where
-  pub top : s.number ≤ removed f
-  pub seen : (j : ℕ) (v : View) → IsActor s j v → (m : ℕ) → HasSeen v m → m ≤ s.number
-  pub holder : (j : ℕ) (v : View) → IsActor s j v → HasRight v.build → HasLooked v.build → LastLooked v.last s.number
+  pub top : NumberTop f s
+  pub seen : NumberSeen s
+  pub holder : NumberHeld s
 
--- 2: a closed generation g has no pin, and g + 1 is below the published number; a pinned one isn't closed, and its
--- holder has seen g + 1
+-- the number of a closed generation is below the published one
+abbrev pub ClosedPassed : File → State → Type 0
+ClosedPassed f s = (g : ℕ) → g < f.stages → IsClosed s g → number_of g < s.number
+
+-- no pin is on a closed generation
+abbrev pub ClosedBare : File → State → Type 0
+ClosedBare f s = (g : ℕ) → g < f.stages → IsClosed s g → (j : ℕ) (v : View) → IsActor s j v → live g v ≡ 0
+
+-- a pin is on a generation that there is
+abbrev pub PinnedIs : File → State → Type 0
+PinnedIs f s = (j : ℕ) (v : View) → IsActor s j v → (g : ℕ) → 0 < live g v → g < f.stages
+
+-- a pinned generation isn't closed
+abbrev pub PinnedOpen : State → Type 0
+PinnedOpen s = (j : ℕ) (v : View) → IsActor s j v → (g : ℕ) → 0 < live g v → IsClosed s g → ⊥
+
+-- who has a pin has seen the number of its generation
+abbrev pub PinnedSeen : State → Type 0
+PinnedSeen s = (j : ℕ) (v : View) → IsActor s j v → (g : ℕ) → 0 < live g v → HasSeen v (number_of g)
+
+-- 2: the pins and the closed generations. That no pin is on a closed generation is said from both sides
 pub record Pins (f : File) (s : State) : Type 0 where
-  pub closed : (g : ℕ) → g < f.stages → IsClosed s g
-      → (number_of g < s.number) × ((j : ℕ) (v : View) → IsActor s j v → live g v ≡ 0)
-  pub pinned : (j : ℕ) (v : View) → IsActor s j v → (g : ℕ) → 0 < live g v
-      → (g < f.stages) × (IsClosed s g → ⊥) × HasSeen v (number_of g)
+  pub passed : ClosedPassed f s
+  pub bare : ClosedBare f s
+  pub stage : PinnedIs f s
+  pub stays_open : PinnedOpen s
+  pub seen : PinnedSeen s
 
--- 3: the published generation has no Unborn name, and neither has one whose number an actor has seen
+-- no name of the published generation is Unborn
+abbrev pub BornPublished : File → State → Type 0
+BornPublished f s = (g : ℕ) → g < f.stages → s.number ≡ number_of g → IsBorn f s g
+
+-- nor of one whose number an actor has seen
+abbrev pub BornSeen : File → State → Type 0
+BornSeen f s = (j : ℕ) (v : View) → IsActor s j v → (g : ℕ) → g < f.stages → HasSeen v (number_of g) → IsBorn f s g
+
+-- 3: the generations without an Unborn name
 pub record Born (f : File) (s : State) : Type 0 where
-  pub published : (g : ℕ) → g < f.stages → s.number ≡ number_of g → IsBorn f s g
-  pub seen : (j : ℕ) (v : View) → IsActor s j v → (g : ℕ) → g < f.stages → HasSeen v (number_of g) → IsBorn f s g
+  pub published : BornPublished f s
+  pub seen : BornSeen f s
 
--- 4: what an actor has seen closed is closed; what it has seen not Unborn isn't Unborn; what it has dropped is Dropped
+-- what an actor has seen closed is closed
+abbrev pub SeenClosed : File → State → Type 0
+SeenClosed f s = (j : ℕ) (v : View) → IsActor s j v → (g : ℕ) → g < f.stages → SawShut g v → IsClosed s g
+
+-- what it has seen not Unborn isn't Unborn
+abbrev pub SeenBorn : State → Type 0
+SeenBorn s = (j : ℕ) (v : View) → IsActor s j v → (n : ℕ) → Among n v.seen.born → s.name n ≢ word.unborn
+
+-- what it has dropped is Dropped
+abbrev pub SeenDropped : State → Type 0
+SeenDropped s = (j : ℕ) (v : View) → IsActor s j v → (n : ℕ) → Among n v.seen.dropped → s.name n ≡ word.dropped
+
+-- 4: what actors have seen
 pub record Seen (f : File) (s : State) : Type 0 where
-  pub closed : (j : ℕ) (v : View) → IsActor s j v → (g : ℕ) → g < f.stages → SawShut g v → IsClosed s g
-  pub born : (j : ℕ) (v : View) → IsActor s j v → (n : ℕ) → Among n v.seen.born → s.name n ≢ word.unborn
-  pub dropped : (j : ℕ) (v : View) → IsActor s j v → (n : ℕ) → Among n v.seen.dropped → s.name n ≡ word.dropped
+  pub closed : SeenClosed f s
+  pub born : SeenBorn s
+  pub dropped : SeenDropped s
 
--- 5: a name that the right's holder was answered Unborn since its begin, and hasn't put since, is Unborn, or Taken in
--- its own birth; one that it was answered Lost, and hasn't restored since, is Lost or Dropped, or Taken in its own
--- retake
+-- a name that the right's holder was answered Unborn since its begin, and hasn't put since, is Unborn, or Taken in its
+-- own birth
+abbrev pub UnbornToBuilder : State → Type 0
+UnbornToBuilder s = (j : ℕ) (v : View) → IsActor s j v → HasRight v.build → (n : ℕ) → Among n v.build.unborn
+    → (s.name n ≡ word.unborn) ⊎ ((s.name n ≡ word.taken) × IsBearing v.inside n)
+
+-- one that it was answered Lost, and hasn't restored since, is Lost or Dropped, or Taken in its own retake
+abbrev pub LostToBuilder : State → Type 0
+LostToBuilder s = (j : ℕ) (v : View) → IsActor s j v → HasRight v.build → (n : ℕ) → Among n v.build.lost
+    → IsLost (s.name n) ⊎ ((s.name n ≡ word.dropped) ⊎ ((s.name n ≡ word.taken) × IsRetaking v.inside n))
+
+-- 5: what the right's holder was answered
 pub record Builder (f : File) (s : State) : Type 0 where
-  pub unborn : (j : ℕ) (v : View) → IsActor s j v → HasRight v.build → (n : ℕ) → Among n v.build.unborn
-      → (s.name n ≡ word.unborn) ⊎ ((s.name n ≡ word.taken) × IsBearing v.inside n)
-  pub lost : (j : ℕ) (v : View) → IsActor s j v → HasRight v.build → (n : ℕ) → Among n v.build.lost
-      → IsLost (s.name n) ⊎ ((s.name n ≡ word.dropped) ⊎ ((s.name n ≡ word.taken) × IsRetaking v.inside n))
+  pub unborn : UnbornToBuilder s
+  pub lost : LostToBuilder s
 
--- 6: a name is Dropped, or Taken in a drop, only where each generation that holds it is closed
+-- a name is Dropped only where each generation that holds it is closed
+abbrev pub DroppedClosed : File → State → Type 0
+DroppedClosed f s = (n : ℕ) → n < f.names → s.name n ≡ word.dropped
+    → (g : ℕ) → g < f.stages → Holds f g n → IsClosed s g
+
+-- and so it is Taken in a drop
+abbrev pub DroppingClosed : File → State → Type 0
+DroppingClosed f s = (j : ℕ) (v : View) → IsActor s j v → (n : ℕ) → IsDropping v.inside n
+    → (g : ℕ) → g < f.stages → Holds f g n → IsClosed s g
+
+-- 6: the dropped names
 pub record Dropped (f : File) (s : State) : Type 0 where
-  pub done : (n : ℕ) → n < f.names → s.name n ≡ word.dropped → (g : ℕ) → g < f.stages → Holds f g n → IsClosed s g
-  pub doing : (j : ℕ) (v : View) → IsActor s j v → (n : ℕ) → IsDropping v.inside n
-      → (g : ℕ) → g < f.stages → Holds f g n → IsClosed s g
+  pub done : DroppedClosed f s
+  pub doing : DroppingClosed f s
 
 -- 7: Lost(line) stands only where there is a lose line of the name's server with this number
 abbrev pub Losses : File → State → Type 0
 Losses f s = (n l : ℕ) → n < f.names → s.name n ≡ word.lost l → IsLoseLine f n l
 
--- 8: a name that is Here has its cell in its slot; a Taken name is one actor's, which has a pin whose generation holds
--- it or is inside its own birth, retake, lose or drop
+-- a name that is Here has its cell in its slot
+abbrev pub HereIsCell : File → State → Type 0
+HereIsCell f s = (n : ℕ) → n < f.names → s.name n ≡ word.here → HasCell f n (s.home n)
+
+-- a Taken name is some actor's
+abbrev pub TakenBySome : File → State → Type 0
+TakenBySome f s = (n : ℕ) → n < f.names → s.name n ≡ word.taken
+    → (j : ℕ) × (v : View) × IsActor s j v × HasTaken v n
+
+-- and no other's
+abbrev pub TakenByOne : State → Type 0
+TakenByOne s = (i j : ℕ) (u v : View) → IsActor s i u → IsActor s j v
+    → (n : ℕ) → HasTaken u n → HasTaken v n → i ≡ j
+
+-- what an actor has Taken is a name of the file
+abbrev pub TakenIsName : File → State → Type 0
+TakenIsName f s = (j : ℕ) (v : View) → IsActor s j v → (n : ℕ) → HasTaken v n → n < f.names
+
+-- its word says so
+abbrev pub TakenIsTaken : State → Type 0
+TakenIsTaken s = (j : ℕ) (v : View) → IsActor s j v → (n : ℕ) → HasTaken v n → s.name n ≡ word.taken
+
+-- and the actor has a pin whose generation holds it, or is inside its own birth, retake, lose or drop
+abbrev pub TakenIsHeld : File → State → Type 0
+TakenIsHeld f s = (j : ℕ) (v : View) → IsActor s j v → (n : ℕ) → HasTaken v n
+    → PinHolds f v.hold v.work n ⊎ IsInside v n
+
+-- 8: the slots of names that are Here, and the names that are Taken
 pub record Cells (f : File) (s : State) : Type 0 where
-  pub here : (n : ℕ) → n < f.names → s.name n ≡ word.here → HasCell f n (s.home n)
-  pub taken : (n : ℕ) → n < f.names → s.name n ≡ word.taken
-      → (j : ℕ) × (v : View) × IsActor s j v × HasTaken v n
-      × ((i : ℕ) (u : View) → IsActor s i u → HasTaken u n → i ≡ j)
-  pub held : (j : ℕ) (v : View) → IsActor s j v → (n : ℕ) → HasTaken v n
-      → (n < f.names) × (s.name n ≡ word.taken) × (PinHolds f v.hold v.work n ⊎ IsInside v n)
+  pub here : HereIsCell f s
+  pub taken : TakenBySome f s
+  pub one : TakenByOne s
+  pub named : TakenIsName f s
+  pub marked : TakenIsTaken s
+  pub held : TakenIsHeld f s
 
 -- the number is the opening's, or the greatest published one where there is one
 abbrev pub NumberGiven : Opening → State → Type 0
@@ -194,13 +287,23 @@ Cause k s m refused = m.begun < total begun_of s.views
 Cause k s m (pinned g pins own) = own < pins → times g m.opened < total (opened_of g) s.views
 Cause k s m a = Unit {0}
 
--- 10: each answer in a Met has its cause; an actor that has the right has a begin answered true in its own Met, and one
--- that has a pin on g a pin made on an open g
+-- each such answer in a Met has its cause
+abbrev pub AnswerCaused : Opening → State → Answer → Type 0
+AnswerCaused k s a = (j : ℕ) (v : View) → IsActor s j v → (m : Met) → IsMetOf v m → 0 < often a m → Cause k s m a
+
+-- an actor that has the right has a begin answered true in its own Met
+abbrev pub RightBegun : State → Type 0
+RightBegun s = (j : ℕ) (v : View) → IsActor s j v → HasRight v.build → 0 < v.own.begun
+
+-- one that has a pin on g has in it a pin made on an open g
+abbrev pub PinOpened : State → Type 0
+PinOpened s = (j : ℕ) (v : View) → IsActor s j v → (g : ℕ) → 0 < live g v → Among g v.own.opened
+
+-- 10: the causes of what actors were answered
 pub record Caused (k : Opening) (s : State) : Type 0 where
-  pub answers : (j : ℕ) (v : View) → IsActor s j v → (m : Met) → IsMetOf v m
-      → (a : Answer) → 0 < often a m → Cause k s m a
-  pub right : (j : ℕ) (v : View) → IsActor s j v → HasRight v.build → 0 < v.own.begun
-  pub pin : (j : ℕ) (v : View) → IsActor s j v → (g : ℕ) → 0 < live g v → Among g v.own.opened
+  pub answers : (a : Answer) → AnswerCaused k s a
+  pub right : RightBegun s
+  pub pin : PinOpened s
 
 -- the ten together
 pub record Kept (f : File) (k : Opening) (s : State) : Type 0 where

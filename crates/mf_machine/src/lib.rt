@@ -10,8 +10,8 @@
 //! *Proved.* For every list of steps of any number of actors from a file at rest on: the ten rules
 //! hold; names of a pinned generation stay; the last actor's account gives the state, which is at
 //! rest; each answer is entered, fits the word that it met, and refused ones lead back to the
-//! opening or to some actor's deed; what was seen is handed on; no guard is too strong and no rule,
-//! down to its clauses, is empty.
+//! opening or to some actor's deed; what was seen is handed on; no guard is too strong and no
+//! clause of the rules is idle.
 #![tactic(auto)]
 
 mod answer;

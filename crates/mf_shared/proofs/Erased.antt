@@ -57,6 +57,9 @@ module _ (f : File) (k : Opening) (s : State) (v : View) (unbound : IsUnbound v)
   taken_by_none n l e = let t = r.cells.taken n l e in
       only (λ w. HasTaken w n → ⊥) v (nothing_taken v unbound.free n) t.0 t.1 t.2 t.3
 
+  taken_of_none : (j : ℕ) (w : View) → IsActor (alone s u) j w → (n : ℕ) → HasTaken w n → ⊥
+  taken_of_none = each (λ w. (n : ℕ) → HasTaken w n → ⊥) (nothing_taken u refl)
+
   cause : (m : Met) (a : Answer) → Cause k (alone s v) m a → Cause k (alone s u) m a
   cause m (answer.here n) c = let a = no_birth v unbound.free n in let b = no_retake v unbound.free n in
       ⊎_elim (λ e. inl e) (λ x. inr (⊎_elim (λ e. inl e) (λ y. inr (⊎_elim (λ e. inl e)
@@ -74,9 +77,11 @@ module _ (f : File) (k : Opening) (s : State) (v : View) (unbound : IsUnbound v)
       holder = each (λ w. HasRight w.build → HasLooked w.build → LastLooked w.last s.number) (r.number.holder 0 v refl);
     };
     pins = record {
-      closed = λ g l c. let t = r.pins.closed g l c in (t.0, each (λ w. live g w ≡ 0) (t.1 0 v refl));
-      pinned = each (λ w. (g : ℕ) → 0 < live g w → (g < f.stages) × (IsClosed s g → ⊥) × HasSeen w (g + 1))
-          (r.pins.pinned 0 v refl);
+      passed = r.pins.passed;
+      bare = λ g l c. each (λ w. live g w ≡ 0) (r.pins.bare g l c 0 v refl);
+      stage = each (λ w. (g : ℕ) → 0 < live g w → g < f.stages) (r.pins.stage 0 v refl);
+      stays_open = each (λ w. (g : ℕ) → 0 < live g w → IsClosed s g → ⊥) (r.pins.stays_open 0 v refl);
+      seen = each (λ w. (g : ℕ) → 0 < live g w → HasSeen w (g + 1)) (r.pins.seen 0 v refl);
     };
     born = record {
       published = r.born.published;
@@ -102,9 +107,10 @@ module _ (f : File) (k : Opening) (s : State) (v : View) (unbound : IsUnbound v)
     cells = record {
       here = r.cells.here;
       taken = λ n l e. absurd (taken_by_none n l e);
-      held = each (λ w. (n : ℕ) → HasTaken w n
-          → (n < f.names) × (s.name n ≡ 2) × (PinHolds f w.hold w.work n ⊎ IsInside w n))
-          (λ n h. absurd (nothing_taken u refl n h));
+      one = λ i j x w e d n h. absurd (taken_of_none i x e n h);
+      named = λ j w e n h. absurd (taken_of_none j w e n h);
+      marked = λ j w e n h. absurd (taken_of_none j w e n h);
+      held = λ j w e n h. absurd (taken_of_none j w e n h);
     };
     accounted = record {
       number = r.accounted.number;
@@ -126,8 +132,8 @@ module _ (f : File) (k : Opening) (s : State) (v : View) (unbound : IsUnbound v)
       line = r.accounted.line;
     };
     caused = record {
-      answers = each (λ w. (m : Met) → IsMetOf w m → (a : Answer) → 0 < often a m → Cause k (alone s u) m a)
-          (λ m is a h. cause m a (r.caused.answers 0 v refl m is a h));
+      answers = λ a. each (λ w. (m : Met) → IsMetOf w m → 0 < often a m → Cause k (alone s u) m a)
+          (λ m is h. cause m a (r.caused.answers a 0 v refl m is h));
       right = each (λ w. HasRight w.build → 0 < w.own.begun) (r.caused.right 0 v refl);
       pin = each (λ w. (g : ℕ) → 0 < live g w → Among g w.own.opened) (r.caused.pin 0 v refl);
     };

@@ -3,8 +3,7 @@ use Rattle.mf_machine.proofs.law.no_rule_is_empty.Goals as goal
 
 pub returns : goal.returns
 returns c = record {
-  rules = exhibits.each_breaks;
+  rules = exhibits.each_needs;
   accounted = exhibits.accounted_breaks;
-  caused =
-      exhibits.caused_breaks;
+  caused = exhibits.caused_needs;
 }

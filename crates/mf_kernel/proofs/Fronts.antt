@@ -1,8 +1,8 @@
 -- A list made in two parts.
-use Rattle.std.proofs.Common.{◌≡◌, ℕ, ◌+◌, ◌-◌, ◌<◌, ◌≤◌, [], ◌∷◌, ◌++◌, get_or, sym, ap, ap₂, ◌∙◌, arith, add-zero}
-use Rattle.std.proofs.Common.{⊎_elim}
+use Rattle.std.proofs.Common.{◌≡◌, ℕ, ◌+◌, ◌-◌, ◌<◌, ◌≤◌, List, [], ◌∷◌, ◌++◌, length, get_or, take, sym, ap, ap₂, ◌∙◌}
+use Rattle.std.proofs.Common.{arith, add-zero, ⊎_elim}
 use Rattle.std.proofs.lemmas.Bool.{cases_lt}
-use Rattle.std.proofs.lemmas.List.{length-append, get_or_append_left, get_or-append_right}
+use Rattle.std.proofs.lemmas.List.{length-append, get_or_append_left, get_or-append_right, take_at}
 use Rattle.mf_code.specs.Rows.{list_of}
 use Rattle.mf_code.proofs.Lists.{length-list_of, list_of_at, list_of_from}
 
@@ -26,3 +26,13 @@ list_of-add n k f =
 -- one more entry
 pub list_of-more : (n : ℕ) (f : ℕ → ℕ) → list_of n f ++ (f n ∷ []) ≡ list_of (n + 1) f
 list_of-more n f = ap (λ (k : ℕ). list_of n f ++ (f k ∷ [])) (sym (add-zero n)) ∙ list_of-add n 1 f
+
+-- a block more
+pub list_of-block : (f : ℕ → ℕ) (start count n : ℕ) (before after made rest : List ℕ) → n ≡ count
+    → before ≡ list_of start f → made ≡ list_of n (λ x. f (start + x)) → after ≡ before ++ take count (made ++ rest)
+    → after ≡ list_of (start + count) f
+list_of-block f start count n before after made rest long so_far block more =
+    let here : length made ≡ count = ap length block ∙ length-list_of n (λ x. f (start + x)) ∙ long in
+    more ∙ ap₂ (λ (xs ys : List ℕ). xs ++ ys) so_far
+    (take_at made rest count here ∙ block ∙ ap (λ (k : ℕ). list_of k (λ x. f (start + x))) long)
+    ∙ list_of-add start count f

@@ -4,6 +4,9 @@ ghost use lib.Lanes.{chunk, put_chunk};
 
 use std::simd::prelude::*;
 
+/// The most columns of a block: so many bytes of each chunk of a stripe stay in the first cache.
+pub const BLOCK: usize = 4_096;
+
 /// The bytes of so many lanes.
 pub(crate) const LANES: usize = 32;
 

@@ -32,3 +32,4 @@ mod row;
 pub use chunk::{Chunk, Memory};
 pub use combining::{combine, combine_all, powers};
 pub use kernels::{add_into, add_scaled, scale};
+pub use lanes::BLOCK;

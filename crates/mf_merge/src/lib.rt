@@ -25,7 +25,7 @@ ghost use Rattle.mf_merge.specs.Merged.{first_length, merged_byte};
 
 use mf_field::pow;
 pub use mf_kernel::{Chunk, Memory};
-use mf_kernel::{add_scaled, combine, powers};
+use mf_kernel::{BLOCK, add_scaled};
 use std::alloc::Global;
 
 /// The parity of a wide stripe with this point, from the parities with the same point of the
@@ -45,8 +45,17 @@ pub fn merge(alloc: Global, point: u8, width: u32, parities: &[Chunk]) -> Result
         → parities.now ≡ narrow_parities size file point width factor j
         → IfOk result (λ merged. merged.items ≡ parity size file point (factor * width) j) }
 {
-    let row = powers(alloc, point, width, parities.len())?;
-    combine(alloc, &row, parities, parities[0].bytes().len())
+    let size = parities[0].bytes().len();
+    let mut merged = Vec::with_capacity(alloc, size)?;
+    let mut block = [0; BLOCK];
+    let mut start = 0;
+    while start < size {
+        let count = BLOCK.min(size - start);
+        merge_block(point, width, parities, start, &mut block[..count]);
+        merged.extend_from_slice(&block[..count])?;
+        start += count;
+    }
+    Ok(merged)
 }
 
 /// Fills `out` with the bytes from `start` on of the merged parity. Each of the parities has the

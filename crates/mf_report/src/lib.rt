@@ -41,6 +41,3 @@ pub use std::alloc::AllocError as Memory;
 pub use summary::summary_line;
 pub use verdicts::{accepted_line, refused_line, too_long_line, words_line};
 pub use writing::{ReportFault, report};
-
-#[cfg(test)]
-mod tests;

@@ -48,8 +48,3 @@ pub use reading::read_script;
 pub use script::Script;
 pub use seeds::from_seed;
 pub use std::alloc::AllocError as Memory;
-
-#[cfg(test)]
-mod seed_tests;
-#[cfg(test)]
-mod tests;

@@ -300,6 +300,3 @@ fn end_of_check<S: Source, K: Sink>(alloc: Global, source: &mut S, sink: &mut K)
         Err(ReadAll::Memory) => Status::Memory,
     }
 }
-
-#[cfg(test)]
-mod tests;

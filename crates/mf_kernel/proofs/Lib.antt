@@ -1,4 +1,5 @@
 pub mod Zips
+pub mod Lent
 pub mod Blocks
 pub mod Fronts
 pub mod Tables

@@ -21,3 +21,8 @@ combined n chunks row = list_of n (λ x. dot row (column x chunks))
 -- The powers of a point with the exponents 0, step, 2 * step and so on, `count` of them.
 abbrev pub powers_of : ℕ → ℕ → ℕ → List ℕ
 powers_of count step point = list_of count (λ t. power point (t * step))
+
+-- The sum of a column by the powers of a point: of byte t times the point to the power of t * step.
+abbrev pub dot_powers : ℕ → ℕ → List ℕ → ℕ
+dot_powers step point column =
+    sum_below (length column) (λ t. times (power point (t * step)) (slice_index column t))

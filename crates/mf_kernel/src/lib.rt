@@ -22,6 +22,7 @@
 #![tactic(auto)]
 
 mod chunk;
+mod columns;
 mod combining;
 mod factor;
 mod filling;
@@ -30,6 +31,7 @@ mod lanes;
 mod row;
 
 pub use chunk::{Chunk, Memory};
+pub use columns::{Bytes, fill_powers, fill_row};
 pub use combining::{combine, combine_all, powers};
 pub use kernels::{add_into, add_scaled, scale};
 pub use lanes::BLOCK;

@@ -23,9 +23,8 @@ ghost use Rattle.mf_code.specs.Rows.{list_of};
 ghost use Rattle.mf_code.specs.Stripes.{narrow_parities};
 ghost use Rattle.mf_merge.specs.Merged.{first_length, merged_byte};
 
-use mf_field::pow;
 pub use mf_kernel::{Chunk, Memory};
-use mf_kernel::{BLOCK, add_scaled};
+use mf_kernel::{BLOCK, fill_powers};
 use std::alloc::Global;
 
 /// The parity of a wide stripe with this point, from the parities with the same point of the
@@ -69,12 +68,7 @@ pub fn merge_block(point: u8, width: u32, parities: &[Chunk], start: usize, out:
     ensures { out.new ≡ list_of (length out.old)
         (λ x. merged_byte point width parities.now (start + x)) }
 {
-    out.fill(0);
-    for (b, parity) in parities.iter().enumerate() {
-        let bytes = parity.bytes();
-        let end = start + out.len();
-        add_scaled(out, pow(point, b as u32 * width), &bytes[start..end]);
-    }
+    fill_powers(point, width, parities, start, out);
 }
 
 #[cfg(test)]

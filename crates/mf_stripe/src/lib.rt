@@ -29,9 +29,8 @@ ghost use Rattle.mf_kernel.specs.Dots.{rows, powers_of};
 mod cutting;
 
 pub use cutting::{cut, join, stripe_pieces};
-use mf_field::pow;
 pub use mf_kernel::{Chunk, Memory};
-use mf_kernel::{add_scaled, combine_all, powers};
+use mf_kernel::{combine_all, fill_powers, powers};
 use std::alloc::Global;
 
 /// The parities of a stripe of at most `width` pieces, one for each point. Pieces and parities have
@@ -74,13 +73,7 @@ pub fn encode_block(
     ensures { out.new ≡ list_of (length out.old)
         (λ x. weighted (slice_index points.now p) (column (start + x) pieces.now)) }
 {
-    let point = points[p as usize];
-    out.fill(0);
-    for (t, piece) in pieces.iter().enumerate() {
-        let bytes = piece.bytes();
-        let end = start + out.len();
-        add_scaled(out, pow(point, t as u32), &bytes[start..end]);
-    }
+    fill_powers(points[p as usize], 1, pieces, start, out);
 }
 
 // The powers of each point with the exponents 0, 1 and so on, `count` of them.

@@ -14,3 +14,4 @@ pub mod WholeLines
 pub mod SeedSteps
 pub mod SeedFamily
 pub mod SeedScript
+pub mod Periods

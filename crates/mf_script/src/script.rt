@@ -10,7 +10,7 @@ use std::alloc::{AllocError, Global};
 use std::marker::Model;
 
 /// A family of codes, and its name.
-#[derive(Debug, Drop)]
+#[derive(Drop)]
 pub struct NamedFamily {
     pub name: Bytes,
     pub family: Family,
@@ -19,7 +19,7 @@ pub struct NamedFamily {
 /// A script: its servers, its chunk size, its families, its policy, its files, each of which
 /// belongs to a family, what stands behind these, and the files of its dump lines. A script of this
 /// version has one family, named `main`.
-#[derive(Debug, Drop)]
+#[derive(Drop)]
 pub struct Script {
     pub(crate) servers: u32,
     pub(crate) chunk: u32,

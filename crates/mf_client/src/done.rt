@@ -9,7 +9,7 @@ use mf_vault::Io;
 use std::marker::Model;
 
 /// The numbers of a command, each from 1.
-#[derive(Clone, Copy, Debug, PartialEq, Eq)]
+#[derive(Clone, Copy)]
 pub struct Place {
     pub phase: u32,
     /// The number of the client in its phase.
@@ -19,7 +19,7 @@ pub struct Place {
 }
 
 /// What came of a command.
-#[derive(Debug, Drop)]
+#[derive(Drop)]
 pub enum Outcome {
     /// Of a command that changes its file.
     Change(Change),
@@ -61,7 +61,7 @@ pub enum Outcome {
 }
 
 /// What a command on several files did to one of them.
-#[derive(Clone, Copy, Debug, PartialEq, Eq)]
+#[derive(Clone, Copy)]
 pub struct Part {
     /// The number of the file.
     pub file: u32,
@@ -69,7 +69,7 @@ pub struct Part {
 }
 
 /// The parts of a command, in the order in which they were done.
-#[derive(Debug, Drop)]
+#[derive(Drop)]
 pub struct Parts {
     items: Vec<Part>,
 }
@@ -102,7 +102,7 @@ impl Parts {
 }
 
 /// A command that was done.
-#[derive(Debug, Drop)]
+#[derive(Drop)]
 pub struct Done {
     pub place: Place,
     pub act: Act,

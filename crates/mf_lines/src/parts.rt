@@ -8,7 +8,7 @@ use std::marker::Model;
 
 /// What has a limit, in the order in which the limits of a line are tried. `Text` is the length of
 /// the whole text.
-#[derive(Clone, Copy, Debug, PartialEq, Eq)]
+#[derive(Clone, Copy)]
 pub enum LimitName {
     Text,
     Number,
@@ -28,7 +28,7 @@ pub enum LimitName {
 
 /// The kinds of faults, in the order in which they are tried: those of a line, and, where no line
 /// has one, that of the stages and that of the points. Want of memory may come at any place.
-#[derive(Debug, Drop)]
+#[derive(Drop)]
 pub enum Kind {
     /// A byte outside 32 to 126 that is no part of a line's end.
     Text,
@@ -84,14 +84,14 @@ impl<T: Drop> From<AllocFailed<T>> for Kind {
 /// What is wrong with a script, and the line, from 1, in which; line 0 is the text as a whole. The
 /// line of the kinds `Shape` and `Family` is that of the first stage, and that of `Memory` says
 /// nothing.
-#[derive(Debug, Drop)]
+#[derive(Drop)]
 pub struct ScriptFault {
     pub line: u32,
     pub kind: Kind,
 }
 
 /// A list of bytes.
-#[derive(Debug, Drop)]
+#[derive(Drop)]
 pub struct Bytes {
     items: Vec<u8>,
 }
@@ -124,7 +124,7 @@ impl Bytes {
 
 /// The bytes of a file: none, those of the rest of a line, those that a word of hexadecimal digits
 /// spells, or `length` bytes of which byte x is (x + `start`) mod 251.
-#[derive(Debug, Drop)]
+#[derive(Drop)]
 pub enum Content {
     Empty,
     Text(Bytes),
@@ -133,7 +133,7 @@ pub enum Content {
 }
 
 /// A file: its name and its bytes.
-#[derive(Debug, Drop)]
+#[derive(Drop)]
 pub struct FileLine {
     pub name: Bytes,
     pub content: Content,
@@ -141,7 +141,7 @@ pub struct FileLine {
 
 /// What a command does, on the file of this number, which can't reach the servers that are `away`;
 /// `Lose` is on the server of this number, and `Sweep` on all files.
-#[derive(Clone, Copy, Debug, PartialEq, Eq)]
+#[derive(Clone, Copy)]
 pub enum Act {
     Create(u32),
     Read {
@@ -167,14 +167,14 @@ pub enum Act {
 }
 
 /// A command, and its line, from 1.
-#[derive(Clone, Copy, Debug, PartialEq, Eq)]
+#[derive(Clone, Copy)]
 pub struct Command {
     pub line: u32,
     pub act: Act,
 }
 
 /// A list of commands.
-#[derive(Debug, Drop)]
+#[derive(Drop)]
 pub struct Commands {
     items: Vec<Command>,
 }
@@ -215,13 +215,13 @@ impl Commands {
 }
 
 /// A client of a phase, with its commands in order.
-#[derive(Debug, Drop)]
+#[derive(Drop)]
 pub struct Client {
     pub commands: Commands,
 }
 
 /// A list of clients.
-#[derive(Debug, Drop)]
+#[derive(Drop)]
 pub struct Clients {
     items: Vec<Client>,
 }
@@ -270,7 +270,7 @@ impl Clients {
 }
 
 /// What stands between the files and the end: ticks of the clock, and phases.
-#[derive(Debug, Drop)]
+#[derive(Drop)]
 pub enum Item {
     Tick(u64),
     Phase(Clients),

@@ -14,7 +14,7 @@ use mf_text::decimal;
 const MAX_NUMBER: u64 = 4_294_967_295;
 
 /// The word of a command.
-#[derive(Clone, Copy, Debug, PartialEq, Eq)]
+#[derive(Clone, Copy)]
 pub enum Verb {
     Create,
     Read,
@@ -49,7 +49,7 @@ impl Verb {
 }
 
 /// The word that a line begins with, which is the line's class; commands are one class.
-#[derive(Clone, Copy, Debug, PartialEq, Eq)]
+#[derive(Clone, Copy)]
 pub enum LineWord {
     Morph,
     Servers,
@@ -128,7 +128,7 @@ pub fn line_word(bytes: &[u8]) -> Option<LineWord>
 }
 
 /// The word that says how a file's bytes are given.
-#[derive(Clone, Copy, Debug, PartialEq, Eq)]
+#[derive(Clone, Copy)]
 pub enum ContentWord {
     Empty,
     Text,

@@ -24,7 +24,7 @@ use mf_vault::Io;
 use std::alloc::{AllocError, Global};
 
 /// Why a report wasn't written whole.
-#[derive(Clone, Copy, Debug, PartialEq, Eq)]
+#[derive(Clone, Copy)]
 pub enum ReportFault {
     /// A write failed.
     Sink,

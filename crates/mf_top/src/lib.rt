@@ -53,7 +53,7 @@ use writing::write_answer;
 const TEXT_LIMIT: usize = 1_048_576;
 
 /// What the words of a call ask for.
-#[derive(Clone, Copy, Debug, PartialEq, Eq)]
+#[derive(Clone, Copy)]
 enum Task {
     /// To run a script, and to write the report as JSON or as lines.
     Run { json: bool },
@@ -62,7 +62,7 @@ enum Task {
 }
 
 /// How a call ended.
-#[derive(Clone, Copy, Debug, PartialEq, Eq)]
+#[derive(Clone, Copy)]
 enum Status {
     /// The task was done, and its answer written.
     Done,

@@ -7,7 +7,5 @@ pub mod Decoded
 pub mod Lists
 pub mod Askings
 pub mod Whole
-pub mod OnePoint
-pub mod Letters
 pub mod Sources
 pub mod Applied

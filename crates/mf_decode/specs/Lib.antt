@@ -7,4 +7,3 @@ pub mod Gathering
 pub mod Fronts
 pub mod Plans
 pub mod Columns
-pub mod Letters

@@ -25,13 +25,9 @@
 
 mod applying;
 mod asking;
-#[cfg(test)]
-mod families;
 mod gathering;
 mod pieces;
 mod planning;
-#[cfg(test)]
-mod tests;
 
 pub use applying::{apply, apply_block};
 pub use gathering::{Gathered, gaps_of, gather};

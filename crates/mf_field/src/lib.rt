@@ -69,6 +69,3 @@ pub fn inv(a: u8) -> Option<u8>
         Some(power_of_two(255 - exponent(a)))
     }
 }
-
-#[cfg(test)]
-mod tests;

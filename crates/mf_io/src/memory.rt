@@ -187,37 +187,3 @@ impl Sink for MemorySink {
         }
     }
 }
-
-#[cfg(test)]
-mod tests {
-    use super::*;
-    use crate::{ReadAll, read_all, write_all};
-    use std::test::Fail;
-
-    #[test]
-    fn pieces_and_listed_calls(rt: HostRuntime) -> Result<(), Fail> {
-        let alloc = rt.alloc();
-        // Three calls read five bytes in pieces of two, and a fourth finds the end.
-        let reads = [
-            (9, 0, Ok(5)),
-            (5, 0, Ok(5)),
-            (4, 0, Err(ReadAll::TooLong)),
-            (9, 2, Err(ReadAll::Fault)),
-            (9, 4, Err(ReadAll::Fault)),
-            (9, 5, Ok(5)),
-        ];
-        for (limit, failing, want) in reads {
-            let bytes = Vec::from_slice(alloc, b"bytes")?;
-            let mut source = MemorySource::new(bytes, 2, vec![in alloc; failing]?);
-            let read = read_all(alloc, &mut source, limit).map(|text| text.len());
-            assert_eq!(rt; read, want, "limit {limit}, call {failing} fails");
-        }
-        // Two calls write five bytes in pieces of three, and the third fails.
-        let mut sink = MemorySink::new(alloc, 3, vec![in alloc; 3]?);
-        assert_eq!(rt; write_all(&mut sink, b"bytes"), Ok(()));
-        assert_eq!(rt; sink.written(), b"bytes".as_slice());
-        assert_eq!(rt; write_all(&mut sink, b"more"), Err(Failed));
-        assert_eq!(rt; sink.written(), b"bytes".as_slice());
-        Ok(())
-    }
-}

@@ -51,18 +51,3 @@ impl Chunk {
         self.bytes.as_slice()
     }
 }
-
-#[cfg(test)]
-mod tests {
-    use super::*;
-    use std::test::Fail;
-
-    #[test]
-    fn a_chunk_outlives_its_first_owner(rt: HostRuntime) -> Result<(), Fail> {
-        let first = Chunk::new(rt.alloc(), [1, 2, 3].to_vec(rt.alloc())?)?;
-        let second = first.share()?;
-        drop(first);
-        assert_eq!(rt; second.bytes(), [1, 2, 3].as_slice());
-        Ok(())
-    }
-}

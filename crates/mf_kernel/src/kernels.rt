@@ -120,21 +120,3 @@ fn add_product_lanes(dst: &mut [u8], factor: &Factor, src: &[u8], at: usize)
     let sums = factor.add_product(lanes_at(dst, at), lanes_at(src, at));
     put_lanes(dst, at, sums);
 }
-
-#[cfg(test)]
-mod tests {
-    use super::*;
-
-    // 4 times ab is 96, and a5 and 96 together are 33.
-    #[test]
-    fn rows_of_bytes(rt: HostRuntime) {
-        let mut row = [0xa5, 0x00, 0x07];
-        add_scaled(&mut row, 4, &[0xab, 0xab, 0x00]);
-        assert_eq!(rt; row, [0x33, 0x96, 0x07]);
-        add_into(&mut row, &[0x33, 0x00, 0xff]);
-        assert_eq!(rt; row, [0x00, 0x96, 0xf8]);
-        let mut row = [0xab, 0x00, 0x01];
-        scale(&mut row, 4);
-        assert_eq!(rt; row, [0x96, 0x00, 0x04]);
-    }
-}

@@ -209,38 +209,3 @@ pub fn invert(alloc: Global, matrix: &Matrix) -> Result<Matrix, NoInverse>
         Some(column) => Err(NoInverse::Kernel(kernel_of(alloc, &equations, size, column)?)),
     }
 }
-
-#[cfg(test)]
-mod tests {
-    use super::*;
-    use std::test::Fail;
-
-    /// The kernel list of a square matrix of two rows, or none.
-    fn kernel_of_two(alloc: Global, entries: [u8; 4]) -> Result<Option<KernelList>, AllocError> {
-        kernel(alloc, &Matrix::new(2, 2, Vec::from_array(alloc, entries)?))
-    }
-
-    #[test]
-    fn inverses_and_kernels(rt: HostRuntime) -> Result<(), Fail> {
-        let kernel = kernel_of_two(rt.alloc(), [1, 2, 1, 2])?.expect(&rt, "a kernel");
-        assert_eq!(rt; kernel.as_slice(), [0x01, 0x8e].as_slice());
-        let kernel = kernel_of_two(rt.alloc(), [0, 7, 0, 9])?.expect(&rt, "a kernel");
-        assert_eq!(rt; kernel.as_slice(), [1, 0].as_slice());
-        assert!(rt; kernel_of_two(rt.alloc(), [0, 1, 1, 0])?.is_none());
-
-        let matrix = Matrix::new(2, 2, Vec::from_array(rt.alloc(), [1, 1, 1, 2])?);
-        let inverse = match invert(rt.alloc(), &matrix) {
-            Ok(inverse) => inverse,
-            Err(_fault) => return Err(AllocError.into()),
-        };
-        assert_eq!(rt; (inverse.rows, inverse.columns), (2, 2));
-        let entries = [
-            inverse.at(0, 0),
-            inverse.at(0, 1),
-            inverse.at(1, 0),
-            inverse.at(1, 1),
-        ];
-        assert_eq!(rt; entries, [0xf5, 0xf4, 0xf4, 0xf4]);
-        Ok(())
-    }
-}

@@ -378,6 +378,3 @@ impl Book {
         }
     }
 }
-
-#[cfg(test)]
-mod tests;

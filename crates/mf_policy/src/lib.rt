@@ -23,6 +23,3 @@ mod policy;
 pub use ages::{due, sweep_list};
 pub use policy::Policy;
 pub use std::alloc::AllocError as Memory;
-
-#[cfg(test)]
-mod tests;

@@ -182,6 +182,3 @@ impl Clone for Shape {
         })
     }
 }
-
-#[cfg(test)]
-mod tests;

@@ -29,6 +29,3 @@ pub use hexadecimal::{HexFault, hex_bytes, push_hex};
 pub use lines::{Span, SplitFault, TEXT_LIMIT, TextFault, first_line, split_lines};
 pub use std::alloc::AllocError as Memory;
 pub use words::split_words;
-
-#[cfg(test)]
-mod tests;

@@ -1,0 +1,54 @@
+//! The due stages of files, and the files that a sweep converts.
+ghost use Rattle.std.specs.Prelude.{◌≡◌};
+
+use crate::plain::assert_no_row;
+use mf_policy::{Memory, Policy, due, sweep_list};
+use std::alloc::Global;
+use std::test::Fail;
+
+// Ages, and the due stages under the thresholds 0, 7 and 30.
+static DUE: [(u64, u32); 9] = [
+    (0, 0),
+    (1, 0),
+    (6, 0),
+    (7, 1),
+    (8, 1),
+    (29, 1),
+    (30, 2),
+    (31, 2),
+    (u64::MAX, 2),
+];
+
+fn first_other_stage(policy: &Policy) -> Option<usize> {
+    for (row, (age, stage)) in DUE.iter().enumerate() {
+        if due(policy, *age) != *stage {
+            return Some(row);
+        }
+    }
+    None
+}
+
+// Ages, and the files that are due, with their stages.
+static SWEEPS: [(&[u64], &[(u32, u32)]); 2] = [
+    (&[6, 7, 0, 31, 29], &[(1, 1), (3, 2), (4, 1)]),
+    (&[], &[]),
+];
+
+fn first_other_sweep(alloc: Global, policy: &Policy) -> Result<Option<usize>, Memory> {
+    for (row, (ages, wanted)) in SWEEPS.iter().enumerate() {
+        if ages.len() > 100 || sweep_list(alloc, policy, ages)?.as_slice() != *wanted {
+            return Ok(Some(row));
+        }
+    }
+    Ok(None)
+}
+
+#[test]
+fn due_stages_and_sweeps(rt: HostRuntime) -> Result<(), Fail> {
+    let policy = Policy::new(vec![in rt.alloc(); 0, 7, 30]?);
+    assert_no_row(&rt, first_other_stage(&policy));
+    assert_no_row(&rt, first_other_sweep(rt.alloc(), &policy)?);
+    let single = Policy::new(vec![in rt.alloc(); 0]?);
+    assert!(rt; due(&single, 1_000_000_000) == 0);
+    Ok(())
+}

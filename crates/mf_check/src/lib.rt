@@ -28,6 +28,7 @@ ghost use Rattle.mf_check.specs.Faults.{IsFault, IsPointFault};
 mod points;
 mod search;
 mod sets;
+mod texts;
 
 use mf_matrix::KernelList;
 use mf_shape::Shape;

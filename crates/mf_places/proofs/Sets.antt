@@ -1,6 +1,8 @@
 -- Sets of servers.
 use Rattle.std.proofs.Common.{◌≡◌, ℕ, ◌^◌, ◌<◌, ◌⊎◌, List, [], ◌∷◌, ap, ◌∙◌, sym, subst, inl, inr, ⊎_elim, arith, lit<}
-use Rattle.std.proofs.Common.{Contains, IsBitSet, ◌↔◌, fold}
+use Rattle.std.proofs.Common.{Contains, IsBitSet, ◌↔◌, fold, ◌+◌, ◌++◌, true, refl, flat_map}
+use Rattle.std.proofs.lemmas.List.{append-nil}
+use Rattle.std.proofs.lemmas.List.Concat.{flat_map-append}
 use Rattle.std.proofs.lemmas.Bool.{cases_lt, cases_eq, eqb-true, eq-eqb, lt-ltb, le-ltb}
 use Rattle.std.proofs.lemmas.Nat.{or_lt, bit_set_by_shift}
 use Rattle.std.proofs.lemmas.Nat.Bits.{bit_at-zero, bit_at_or, bit_at-pow_same, bit_at-pow_other, bit_at-lt}
@@ -11,7 +13,8 @@ use Rattle.std.proofs.Math.Pow.{pow-lt}
 use Rattle.std.specs.Int.{bit_at}
 use Rattle.mf_places.specs.declared.servers.Servers.{Servers}
 use Rattle.mf_places.specs.Servers.{IsIn, is_in, no_servers, with_server, set_of, servers_of}
-use Rattle.mf_places.proofs.Passing.{passing, Passes-from, Contains-passing}
+use Rattle.mf_places.specs.Texts.{spaced, servers_text}
+use Rattle.mf_places.proofs.Passing.{passing, passing-yes, Passes-from, Contains-passing}
 
 -- ---- one bit
 
@@ -148,3 +151,23 @@ set_of-servers_of set fits =
 pub all_listed : (set : Servers) (n : ℕ) (xs : List ℕ) → xs ≡ passing (is_in set) n → n ≡ 128 → xs ≡ servers_of set
 unfolding servers_of
 all_listed set n xs so_far end = so_far ∙ ap (passing (is_in set)) end
+
+-- the list of a set is empty where the set is
+pub none_listed : (set : Servers) → set.bits ≡ 0 → servers_of set ≡ []
+unfolding servers_of
+none_listed set e = ap (λ (b : ℕ). servers_of (record { bits = b })) e
+
+pub none_in : (set : Servers) → set.bits < 2 ^ 128 → servers_of set ≡ [] → set.bits ≡ 0
+unfolding set_of
+none_in set fits e = ap (λ (s : Servers). s.bits) (sym (set_of-servers_of set fits) ∙ ap set_of e)
+
+-- the text of a set, server by server
+pub member_text : (set : Servers) (n : ℕ) → is_in set n ≡ true
+    → flat_map spaced (passing (is_in set) (n + 1)) ≡ flat_map spaced (passing (is_in set) n) ++ spaced n
+member_text set n test =
+    ap (flat_map spaced) (passing-yes (is_in set) n test)
+    ∙ flat_map-append spaced (passing (is_in set) n) (n ∷ [])
+    ∙ ap (λ ys. flat_map spaced (passing (is_in set) n) ++ ys) (append-nil (spaced n))
+
+pub all_text : (set : Servers) (n : ℕ) → n ≡ 128 → flat_map spaced (passing (is_in set) n) ≡ servers_text set
+all_text set n end = ap (flat_map spaced) (all_listed set n (passing (is_in set) n) refl end)

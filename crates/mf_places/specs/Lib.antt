@@ -5,6 +5,7 @@ pub mod Numbers
 pub mod Generations
 pub mod Placement
 pub mod Servers
+pub mod Texts
 -- Words of private functions.
 pub mod Kept
 pub mod Rows

@@ -36,6 +36,7 @@ mod lists;
 mod losses;
 mod rows;
 mod servers;
+mod texts;
 
 pub use losses::{LoseLine, Losses};
 use mf_shape::{MAX_COPIES, MAX_PARITIES, MAX_WIDTH, Shape, Stage};

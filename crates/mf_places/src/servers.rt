@@ -1,11 +1,12 @@
 //! Sets of servers.
-ghost use Rattle.std.specs.Prelude.{◌≡◌, ℕ, ◌<◌, ◌↔◌, IsTrue, IfOk, Contains};
+ghost use Rattle.std.specs.Prelude.{◌≡◌, ℕ, ◌<◌, ◌↔◌, [], IsTrue, IfOk, Contains};
 ghost use Rattle.std.specs.List.Sorted.{IsStrictlyIncreasing};
 ghost use Rattle.mf_places.specs.Servers.{IsIn, no_servers, with_server, set_of, servers_of};
 
 use crate::Memory;
 use mf_shape::MAX_SERVERS;
 use std::alloc::Global;
+use std::fmt;
 
 /// A set of servers: bit s stands for server s. A server above 127 is in no set.
 #[derive(Clone, Copy, Debug, PartialEq, Eq)]
@@ -42,6 +43,13 @@ impl Servers {
         server < MAX_SERVERS && (self.bits >> server) & 1 == 1
     }
 
+    /// Whether no server is in the set.
+    pub fn is_empty(self) -> bool
+        ensures { IsTrue result ↔ (servers_of self ≡ []) }
+    {
+        self.bits == 0
+    }
+
     /// The servers of the set, ascending. The only error is want of memory.
     pub fn list(self, alloc: Global) -> Result<Vec<u32>, Memory>
         ensures value { IfOk result (λ servers. servers.items ≡ servers_of self) }
@@ -70,5 +78,22 @@ impl Servers {
         } else {
             self
         }
+    }
+}
+
+/// The servers, ascending, each behind a space.
+impl fmt::Display for Servers {
+    ghost use Rattle.std.specs.Prelude.{Some};
+    ghost use Rattle.mf_places.specs.Texts.{servers_text};
+
+    ghost output = { λ set. Some (servers_text set) };
+
+    fn fmt<W: fmt::Write>(&self, f: &mut fmt::Formatter<W>) -> fmt::Result {
+        for server in 0..MAX_SERVERS {
+            if self.has(server) {
+                write!(f, " {server}")?;
+            }
+        }
+        Ok(())
     }
 }

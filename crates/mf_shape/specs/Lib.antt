@@ -2,5 +2,6 @@
 pub mod Stages
 pub mod Chain
 pub mod Faults
+pub mod Texts
 -- Words of private functions.
 pub mod Rules

@@ -27,6 +27,7 @@ mod rules;
 use rules::{first_fault, greatest_copied_width, greatest_width};
 use std::alloc::{AllocError, Global};
 use std::clone::Clone;
+use std::fmt;
 use std::marker::Model;
 
 /// The greatest number of stages of a chain.
@@ -77,6 +78,31 @@ pub enum ShapeFault {
     Servers(u32),
     /// Memory ran out.
     Memory,
+}
+
+// A word, and the number that the fault names. Want of memory has no text.
+impl fmt::Display for ShapeFault {
+    ghost use Rattle.std.specs.Prelude.{Some};
+    ghost use Rattle.mf_shape.specs.Texts.{shape_text};
+
+    ghost output = { λ fault. Some (shape_text fault) };
+
+    fn fmt<W: fmt::Write>(&self, f: &mut fmt::Formatter<W>) -> fmt::Result {
+        match *self {
+            ShapeFault::NoStage => write!(f, "nostage"),
+            ShapeFault::TooManyStages => write!(f, "toomanystages"),
+            ShapeFault::Width(g) => write!(f, "width {g}"),
+            ShapeFault::Parities(g) => write!(f, "parities {g}"),
+            ShapeFault::Copies(g) => write!(f, "copies {g}"),
+            ShapeFault::NotMultiple(g) => write!(f, "notmultiple {g}"),
+            ShapeFault::ParitiesGrow(g) => write!(f, "paritiesgrow {g}"),
+            ShapeFault::CopiesGrow(g) => write!(f, "copiesgrow {g}"),
+            ShapeFault::ParitiesOverWidth(g) => write!(f, "paritiesoverwidth {g}"),
+            ShapeFault::CopiesDontFit => write!(f, "copiesdontfit"),
+            ShapeFault::Servers(n) => write!(f, "servers {n}"),
+            ShapeFault::Memory => Ok(()),
+        }
+    }
 }
 
 /// A chain of stages that keeps the rules, over a number of servers.

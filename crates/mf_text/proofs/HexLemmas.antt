@@ -2,6 +2,7 @@
 use Rattle.std.proofs.Common.{◌≡◌, ℕ, ◌+◌, ◌-◌, ◌*◌, ◌/◌, ◌%◌, ◌<◌, ◌≤◌, true, false, not, eqb, ltb, leb, ◌&&◌, List}
 use Rattle.std.proofs.Common.{[], ◌∷◌, ◌++◌, length, get_or, take, drop, Some, None, refl, sym, ap, ◌∙◌, inl, inr}
 use Rattle.std.proofs.Common.{arith}
+use Rattle.std.specs.Fmt.{digits, digit_glyph}
 use Rattle.std.specs.List.{list_all, AllByRecursion}
 use Rattle.std.proofs.lemmas.Bool.{cond-true, cond-false, cases_Bool, cases_lt, and_parts, and_from, or_cases, lt-ltb}
 use Rattle.std.proofs.lemmas.Bool.{le-ltb, ltb-true, both_ways, or_right, le-leb, lt-leb, leb-true, eq-eqb, eqb-true}
@@ -262,3 +263,23 @@ hex_value-bytes (a ∷ b ∷ rest) h =
 pub hex_text_injective : (a b : List ℕ) → AllByRecursion (λ x. x < 256) a → AllByRecursion (λ x. x < 256) b
     → hex_text a ≡ hex_text b → a ≡ b
 hex_text_injective a b p q e = sym (hex_value-hex_text a p) ∙ ap hex_value e ∙ hex_value-hex_text b q
+
+-- ---- digits that are printed
+
+one_digit : (v : ℕ) → v < 16 → digits 16 false v ≡ hex_digit v ∷ []
+unfolding digits
+one_digit v lt =
+    let small : v % 16 ≡ v = omega arith in
+    cond-true _ _ _ (eq-eqb (v / 16) 0 (omega arith)) ∙ ap (λ (d : ℕ). digit_glyph false d ∷ []) small
+
+-- the digits of one byte more
+pub hex_shown : (bytes : List ℕ) (i : ℕ) → i < length bytes → get_or bytes i 0 < 256
+    → hex_text (take i bytes) ++ (digits 16 false (get_or bytes i 0 / 16) ++ digits 16 false (get_or bytes i 0 % 16))
+    ≡ hex_text (take (i + 1) bytes)
+hex_shown bytes i lt byte =
+    let b = get_or bytes i 0 in
+    let high = one_digit (b / 16) (omega arith) in
+    let low = one_digit (b % 16) (omega arith) in
+    ap (λ (ds : List ℕ). hex_text (take i bytes) ++ (ds ++ digits 16 false (b % 16))) high
+    ∙ ap (λ (ds : List ℕ). hex_text (take i bytes) ++ (hex_digit (b / 16) ∷ ds)) low
+    ∙ hex_text_more [] bytes i lt

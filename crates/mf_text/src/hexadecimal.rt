@@ -6,6 +6,7 @@ ghost use Rattle.mf_text.specs.Hex.{hex_digit, is_hex_digit, hex_digit_value};
 ghost use Rattle.mf_text.specs.Hex.{hex_text, hex_of, IsHexFault};
 
 use std::alloc::{AllocError, AllocFailed, Global};
+use std::fmt;
 
 /// Why a word has no bytes.
 #[derive(Debug, Drop)]
@@ -107,4 +108,26 @@ pub fn push_hex(out: &mut Vec<u8>, bytes: &[u8]) -> Result<(), AllocError>
         }
     }
     Ok(())
+}
+
+/// Bytes as they are spelled: two lower-case digits each.
+#[derive(Clone, Copy)]
+pub struct Hex<'a> {
+    pub bytes: &'a [u8],
+}
+
+impl fmt::Display for Hex<'_> {
+    ghost use Rattle.std.specs.Prelude.{Some};
+    ghost use Rattle.mf_text.specs.Hex.{hex_text};
+
+    ghost output = { λ hex. Some (hex_text hex.bytes.now) };
+
+    fn fmt<W: fmt::Write>(&self, f: &mut fmt::Formatter<W>) -> fmt::Result {
+        for byte in self.bytes {
+            let high = *byte / 16;
+            let low = *byte % 16;
+            write!(f, "{high:x}{low:x}")?;
+        }
+        Ok(())
+    }
 }

@@ -25,7 +25,7 @@ mod lines;
 mod words;
 
 pub use decimals::{decimal, push_decimal};
-pub use hexadecimal::{HexFault, hex_bytes, push_hex};
+pub use hexadecimal::{Hex, HexFault, hex_bytes, push_hex};
 pub use lines::{Span, SplitFault, TEXT_LIMIT, TextFault, first_line, split_lines};
 pub use std::alloc::AllocError as Memory;
 pub use words::split_words;

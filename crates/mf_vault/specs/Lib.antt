@@ -4,6 +4,7 @@ pub mod Answers
 pub mod May
 pub mod Licence
 pub mod Counting
+pub mod Texts
 pub mod Resting
 pub mod Laws
 pub mod Conditions

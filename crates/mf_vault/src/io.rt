@@ -4,6 +4,7 @@ ghost use Rattle.mf_vault.specs.Counting.{io_of, counts, read};
 
 use crate::answers::{Answer, Entry, Op};
 use mf_places::Name;
+use std::fmt;
 
 /// Chunk operations by their kind.
 #[derive(Clone, Copy, Debug, Default, PartialEq, Eq)]
@@ -25,6 +26,7 @@ pub struct Io {
 
 impl Io {
     ghost use Rattle.mf_vault.specs.Counting.{SumFits, add_io};
+    ghost use Rattle.mf_vault.specs.Texts.{io_numbers};
 
     /// The operations of both, kind by kind.
     pub fn plus(self, other: Io) -> Io
@@ -40,6 +42,38 @@ impl Io {
             probes: self.probes + other.probes,
             drops: self.drops + other.drops,
         }
+    }
+
+    /// The seven numbers, in the order in which they are written.
+    pub fn numbers(self) -> [u64; 7]
+        ensures { result ≡ io_numbers self }
+    {
+        [
+            self.pieces,
+            self.copies,
+            self.parities,
+            self.misses,
+            self.writes,
+            self.probes,
+            self.drops,
+        ]
+    }
+}
+
+/// The word `io`, and the seven numbers in their order.
+impl fmt::Display for Io {
+    ghost use Rattle.std.specs.Prelude.{Some};
+    ghost use Rattle.mf_vault.specs.Texts.{io_text};
+
+    ghost output = { λ io. Some (io_text io) };
+
+    fn fmt<W: fmt::Write>(&self, f: &mut fmt::Formatter<W>) -> fmt::Result {
+        let numbers = self.numbers();
+        write!(f, "io")?;
+        for n in &numbers {
+            write!(f, " {n}")?;
+        }
+        Ok(())
     }
 }
 

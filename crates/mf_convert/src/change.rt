@@ -1,6 +1,7 @@
 //! What came of a change.
 
 use mf_places::Name;
+use std::fmt;
 
 /// What came of creating a file, of converting it to its next stage, or of removing it.
 #[derive(Clone, Copy, Debug, PartialEq, Eq)]
@@ -48,4 +49,30 @@ pub enum Change {
     },
     /// Memory ran out.
     Memory,
+}
+
+impl fmt::Display for Change {
+    ghost use Rattle.std.specs.Prelude.{Some};
+    ghost use Rattle.mf_convert.specs.Texts.{change_text};
+
+    ghost output = { λ change. Some (change_text change) };
+
+    fn fmt<W: fmt::Write>(&self, f: &mut fmt::Formatter<W>) -> fmt::Result {
+        match *self {
+            Change::Created => write!(f, "created"),
+            Change::Converted { from, to, made } => {
+                write!(f, "converted {from} to {to} made {made}")
+            }
+            Change::Stopped { from, to, made } => write!(f, "stopped {from} to {to} made {made}"),
+            Change::RemovedNow => write!(f, "removed now"),
+            Change::Exists => write!(f, "exists"),
+            Change::Absent => write!(f, "absent"),
+            Change::Removed => write!(f, "removed"),
+            Change::Last { g } => write!(f, "last {g}"),
+            Change::Busy => write!(f, "busy"),
+            Change::Needs { name, line } => write!(f, "needs {name}:{line}"),
+            Change::Unreachable { name, server } => write!(f, "unreachable {name} server {server}"),
+            Change::Memory => write!(f, "memory"),
+        }
+    }
 }

@@ -1,6 +1,7 @@
 pub mod Asking
 pub mod Reading
 pub mod Laws
+pub mod Texts
 -- what a stripe is asked from, and what came of it
 pub mod Groups
 pub mod Stripes

@@ -31,6 +31,7 @@ mod law;
 mod outcome;
 mod reading;
 mod short;
+mod texts;
 
 pub use gathering::gather_stripe;
 pub use law::{read_has_one_result, short_has_lost};

@@ -1,5 +1,6 @@
 //! What came of a reclaim.
 
+use std::fmt;
 use std::marker::Model;
 
 /// Generations that have pins, ascending, each with the number of its pins.
@@ -34,6 +35,25 @@ impl PinCounts {
     }
 }
 
+/// The generations with commas between them, or `-` where there is none.
+impl fmt::Display for PinCounts {
+    ghost use Rattle.std.specs.Prelude.{Some};
+    ghost use Rattle.mf_reclaim.specs.Texts.{pins_text};
+
+    ghost output = { λ pins. Some (pins_text pins) };
+
+    fn fmt<W: fmt::Write>(&self, f: &mut fmt::Formatter<W>) -> fmt::Result {
+        let Some(((g, count), more)) = self.as_slice().split_first() else {
+            return write!(f, "-");
+        };
+        write!(f, "{g}:{count}")?;
+        for (g, count) in more {
+            write!(f, ",{g}:{count}")?;
+        }
+        Ok(())
+    }
+}
+
 /// What came of a reclaim.
 #[derive(Debug, Drop)]
 pub enum ReclaimOutcome {
@@ -48,4 +68,26 @@ pub enum ReclaimOutcome {
     Absent,
     /// Memory ran out, and nothing was done.
     Memory,
+}
+
+impl fmt::Display for ReclaimOutcome {
+    ghost use Rattle.std.specs.Prelude.{Some};
+    ghost use Rattle.mf_reclaim.specs.Texts.{reclaim_text};
+
+    ghost output = { λ reclaim. Some (reclaim_text reclaim) };
+
+    fn fmt<W: fmt::Write>(&self, f: &mut fmt::Formatter<W>) -> fmt::Result {
+        match self {
+            ReclaimOutcome::Reclaimed {
+                closed,
+                dropped,
+                pinned,
+            } => write!(
+                f,
+                "reclaimed closed {closed} dropped {dropped} pinned {pinned}"
+            ),
+            ReclaimOutcome::Absent => write!(f, "absent"),
+            ReclaimOutcome::Memory => write!(f, "memory"),
+        }
+    }
 }

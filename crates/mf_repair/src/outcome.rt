@@ -2,6 +2,7 @@
 
 use mf_places::Name;
 use mf_read::LostNames;
+use std::fmt;
 
 /// What came of a repair.
 #[derive(Debug, Drop)]
@@ -35,4 +36,35 @@ pub enum RepairOutcome {
     },
     /// Memory ran out.
     Memory,
+}
+
+impl fmt::Display for RepairOutcome {
+    ghost use Rattle.std.specs.Prelude.{Some};
+    ghost use Rattle.mf_repair.specs.Texts.{repair_text};
+
+    ghost output = { λ repair. Some (repair_text repair) };
+
+    fn fmt<W: fmt::Write>(&self, f: &mut fmt::Formatter<W>) -> fmt::Result {
+        match self {
+            RepairOutcome::Repaired { restored, skipped } => {
+                write!(f, "repaired {restored} skipped {skipped}")
+            }
+            RepairOutcome::Absent => write!(f, "absent"),
+            RepairOutcome::Removed => write!(f, "removed"),
+            RepairOutcome::Busy => write!(f, "busy"),
+            RepairOutcome::DataLost { g, stripe, lost } => {
+                write!(f, "datalost gen {g} stripe {stripe} lost{lost}")
+            }
+            RepairOutcome::Unreachable {
+                g,
+                stripe,
+                name,
+                server,
+            } => write!(
+                f,
+                "unreachable gen {g} stripe {stripe} {name} server {server}"
+            ),
+            RepairOutcome::Memory => write!(f, "memory"),
+        }
+    }
 }

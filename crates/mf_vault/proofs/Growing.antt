@@ -89,7 +89,7 @@ tried_dropped f slot [] Absent v = refl
 tried_dropped f slot [] Removed v = refl
 tried_dropped f slot (h ∷ gs) p v = tried_dropped f slot gs p (row.missed h (row.looked (h + 1) v))
 
-tried_made : (f : Facts) (slot : Slot) (gs : List ℕ) (p : Pinned) (v : View) → (tried f slot gs p v).made ≡ v.made
+pub tried_made : (f : Facts) (slot : Slot) (gs : List ℕ) (p : Pinned) (v : View) → (tried f slot gs p v).made ≡ v.made
 tried_made f Hold [] (At h) v = refl
 tried_made f Work [] (At h) v = refl
 tried_made f slot [] Absent v = refl

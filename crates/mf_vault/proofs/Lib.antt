@@ -4,3 +4,4 @@ pub mod Held
 pub mod Counted
 pub mod Once
 pub mod Growing
+pub mod Gaining

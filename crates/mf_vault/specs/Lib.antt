@@ -7,4 +7,5 @@ pub mod Counting
 pub mod Texts
 pub mod Resting
 pub mod Laws
+pub mod Gains
 pub mod Conditions

@@ -1,5 +1,6 @@
 //! What follows of the calls of any access.
-ghost use Rattle.mf_vault.specs.Laws.{OneAnswer, SeenGrows};
+ghost use Rattle.mf_vault.specs.Laws.{EntriesTell, NeverRefused, OneAnswer, PinsAreLooked};
+ghost use Rattle.mf_vault.specs.Laws.{SeenGrows, WorkStaysFree};
 
 /// What an actor has seen and made only grows.
 pub fn seen_only_grows()
@@ -9,4 +10,26 @@ pub fn seen_only_grows()
 /// Where the whole state is told, a call has one answer, want of memory aside.
 pub fn alone_has_one_answer()
     ensures { OneAnswer }
+{}
+
+/// What calls add to their actor's Made and Met is just what their entries say, and beside these the
+/// numbers looked at and published, the begins, the pins, and a Here for each get that ended for
+/// want of memory.
+pub fn entries_tell()
+    ensures { EntriesTell }
+{}
+
+/// A generation is pinned only where its number was looked at.
+pub fn pins_are_looked_at()
+    ensures { PinsAreLooked }
+{}
+
+/// Calls that don't pin the Work slot leave it free at each close.
+pub fn work_stays_free()
+    ensures { WorkStaysFree }
+{}
+
+/// Where the whole state is told, a begin is never refused.
+pub fn alone_is_never_refused()
+    ensures { NeverRefused }
 {}

@@ -16,8 +16,10 @@
 //!
 //! *Proved.* The traits `Access` and `Fetch`: each call leads from one actor to the next by its row
 //! of the file machine, appends its entry and leaves all else, with what is promised of its answer;
-//! `count_io` counts each entry by its kind. Laws, over any access: what is seen only grows; an
-//! actor alone has one answer to a call, want of memory aside.
+//! `count_io` counts each entry by its kind. Laws, over any access: what is seen only grows; what is
+//! made and met is just what the entries say, with the numbers, begins and pins beside them; a
+//! generation is pinned only where its number was looked at; an actor alone is never refused the
+//! right, and has one answer to a call, want of memory aside.
 #![tactic(auto)]
 
 mod access;
@@ -33,7 +35,10 @@ pub use access::Access;
 pub use answers::{Answer, Entry, Got, Op, Pinned, Rest};
 pub use fetch::Fetch;
 pub use io::{Io, count_io};
-pub use law::{alone_has_one_answer, seen_only_grows};
+pub use law::{
+    alone_has_one_answer, alone_is_never_refused, entries_tell, pins_are_looked_at,
+    seen_only_grows, work_stays_free,
+};
 pub use mf_kernel::{Chunk, Memory};
 pub use mf_machine::{Closed, Slot, State};
 pub use mf_places::{Book, LoseLine, Losses, Name, Servers};

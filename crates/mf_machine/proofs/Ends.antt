@@ -14,7 +14,7 @@ use Rattle.mf_machine.specs.Answers.{Answer, often}
 use Rattle.mf_machine.specs.Counts.{times, total, all_begun, all_opened}
 use Rattle.mf_machine.specs.File.{File, Opening, State, Holds}
 use Rattle.mf_machine.specs.Kept.{IsActor, IsMetOf, Stands, Cause, Kept}
-use Rattle.mf_machine.specs.Laws.{Someone, Law, RestIsKept, Stays, PinnedStays, IsLast, resting, alone, BringsBack}
+use Rattle.mf_machine.specs.Laws.{RuleHolds, Law, RestIsKept, Stays, PinnedStays, IsLast, resting, alone, BringsBack}
 use Rattle.mf_machine.specs.Laws.{LastBringsBack, Another, Someone, LeadsBack, CausesLeadBack}
 use Rattle.mf_machine.specs.Rest.{Rest}
 use Rattle.mf_machine.specs.Ruled.{SitsIn, Ruled}
@@ -50,6 +50,9 @@ stays f k s r j v at g alive n l h = let b = r.pins.stage j v at g alive in
 
 pub pinned_stays : PinnedStays
 pinned_stays f k w r = stays f k (read f w) (law f k w r).0
+
+pub rule_holds : RuleHolds
+rule_holds f k s rest r = let kept = rules.kept f k s rest r in (kept, stays f k s kept)
 
 -- a state that keeps the rules rests, where no name is Taken
 pub kept_rests : (f : File) (k : Opening) (s : State) → Kept f k s → ((n : ℕ) → n < f.names → s.name n ≢ 2)

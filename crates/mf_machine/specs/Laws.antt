@@ -39,6 +39,11 @@ abbrev pub PinnedStays : Type 0
 PinnedStays = (f : File) (k : Opening) (w : World) → Reached f k w → (j : ℕ) (v : View) → IsActor (read f w) j v
     → (g : ℕ) → 0 < live g v → (n : ℕ) → n < f.names → Holds f g n → Stays f (read f w) n
 
+-- and so it is in each state that keeps the rule as sums, which is what a table of the file's words keeps
+abbrev pub RuleHolds : Type 0
+RuleHolds = (f : File) (k : Opening) (s : State) → Rest f k → Ruled f k s → Kept f k s
+    × ((j : ℕ) (v : View) → IsActor s j v → (g : ℕ) → 0 < live g v → (n : ℕ) → n < f.names → Holds f g n → Stays f s n)
+
 -- the last actor: it has the whole share again, and no pin, no right and no name Taken
 abbrev pub IsLast : State → ℕ → View → Type 0
 IsLast s j v = IsActor s j v × (v.share ≡ whole_share)

@@ -3,7 +3,7 @@
 ghost use Rattle.mf_machine.specs.Exhibits.{AccountedBreaks, CausedNeeds, EachNeeds, SomeRun};
 ghost use Rattle.mf_machine.specs.Laws.{AddsUp, AnswersEntered, AnswersFit, AnswersTell};
 ghost use Rattle.mf_machine.specs.Laws.{CausesLeadBack, LastBringsBack, Law, NotesTrue, OnlyGrows};
-ghost use Rattle.mf_machine.specs.Laws.{PinnedStays, RestGoesOn, RestIsKept, SeenHandedOn};
+ghost use Rattle.mf_machine.specs.Laws.{PinnedStays, RestGoesOn, RestIsKept, RuleHolds, SeenHandedOn};
 
 /// The ten rules hold in every reached state.
 pub fn rules_are_kept()
@@ -20,6 +20,13 @@ pub fn rest_is_kept()
 /// cell, Taken, or Lost.
 pub fn pinned_stays()
     ensures { PinnedStays }
+{}
+
+/// In every state that keeps the rule as sums, whether or not a list of moves reaches it: the ten
+/// rules hold, and no name of a pinned generation is Unborn or Dropped. A table of the file's words
+/// keeps this rule.
+pub fn rule_holds_everywhere()
+    ensures { RuleHolds }
 {}
 
 /// Where a reached state has one actor left, without pin, right or Taken name, its Made accounts

@@ -22,6 +22,7 @@ pub use answer::{Closed, LoseStep, Slot, State};
 pub use law::{
     account_adds_up, answers_are_entered, answers_fit, answers_tell, causes_lead_back,
     last_brings_back, no_guard_is_too_strong, no_rule_is_empty, notes_are_true, only_grows,
-    pinned_stays, rest_goes_on, rest_is_kept, rules_are_kept, seen_is_handed_on,
+    pinned_stays, rest_goes_on, rest_is_kept, rule_holds_everywhere, rules_are_kept,
+    seen_is_handed_on,
 };
 pub use view::{Build, Changes, Inside, Loss, Made, Met, Refusal, Seen, Step, View};

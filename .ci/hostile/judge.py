@@ -16,10 +16,10 @@ SEED = re.compile(r'seed (\d+) commands (\d+) reads (\d+) lost (\d+) converted (
 
 
 class Case:
-    """Words and a text, with what may be written for them."""
+    """Words and a text, with what may be written for them. Of its growths each `step`-th is refused."""
 
-    def __init__(self, name, words, text=b''):
-        self.name, self.words, self.text = name, words, text
+    def __init__(self, name, words, text=b'', step=1):
+        self.name, self.words, self.text, self.step = name, words, text, step
         self.seed = int(words[1]) if words[0] == 'seed' else None
         self.refusal = self.script = None
         self.orders = [{}]

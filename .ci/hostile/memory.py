@@ -1,7 +1,7 @@
 """Each growth refused in turn, and no thread."""
 import time
 
-from judge import Case
+from judge import Case, seeds
 
 BASE = 'morph 1\nservers 6\nchunk 1\npoints 1 2\nstage 2 2 1\nstage 4 2 0\nfile a text abcd\nphase\nclient\n'
 SWEEP = ('morph 1\nservers 16\nchunk 4096\npoints 1 2 4\nstage 6 3 1\nstage 6 3 0\nstage 12 3 0\npolicy 0 7 30\n'
@@ -31,6 +31,7 @@ def cases():
         Case('a refused family', ['check'], text_of('examples/families/width_22.morph')),
         Case('a refused script', ['run'], first.replace('servers 6', 'servers 06').encode()),
         Case('a seed', ['seed', '1']),
+        Case('a seed as a script', ['run'], seeds.script_of(1), 16),
     ]
 
 
@@ -40,7 +41,7 @@ def memory(program):
     for case in cases():
         begun, asks, reports, before = time.time(), program.asks(case.words, case.text), 0, wrong
         for how in ('REFUSE_AT', 'REFUSE_FROM'):
-            for number in range(1, asks + 2):
+            for number in range(1, asks + 2, case.step):
                 written, err, status = program.run(case.words, case.text, **{how: number})
                 why = case.wrong(written, err, status)
                 runs += 1

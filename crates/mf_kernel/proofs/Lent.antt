@@ -1,7 +1,10 @@
 -- Pieces of any kind, seen as their lists of bytes.
-use Rattle.std.proofs.Common.{◌≡◌, ℕ, ◌+◌, ◌<◌, ◌≤◌, List, All, length, map, get_or, sym, ap, ◌∙◌, arith}
+use Rattle.std.proofs.Common.{◌≡◌, ℕ, ◌+◌, ◌*◌, ◌<◌, ◌≤◌, List, All, length, map, get_or, sym, ap, ◌∙◌, arith}
 use Rattle.std.proofs.lemmas.List.{length-map, get_or-map, map-id}
+use Rattle.mf_code.specs.Field.{times, power}
+use Rattle.mf_code.specs.Sums.{weighted}
 use Rattle.mf_code.specs.Rows.{list_of, column}
+use Rattle.mf_code.proofs.Sums.{sum_below-same}
 use Rattle.mf_code.proofs.Lists.{list_of-same}
 use Rattle.mf_kernel.specs.Dots.{dot_powers}
 
@@ -29,3 +32,9 @@ of_chunks n start step point chunks made f are is =
     are
     ∙ ap (λ (l : List (List ℕ)). list_of n (λ x. dot_powers step point (column (start + x) l))) (map-id chunks)
     ∙ list_of-same n (λ x. dot_powers step point (column (start + x) chunks)) f (λ x lt. is x)
+
+-- by the powers 0, 1 and so on it is the sum by the point
+pub weighted_is : (point : ℕ) (xs : List ℕ) → dot_powers 1 point xs ≡ weighted point xs
+weighted_is point xs = sum_below-same (length xs) (λ t. times (power point (t * 1)) (get_or xs t 0))
+    (λ t. times (power point t) (get_or xs t 0))
+    (λ t lt. ap (λ (n : ℕ). times (power point n) (get_or xs t 0)) (let e : t * 1 ≡ t = omega arith in e))

@@ -1,0 +1,216 @@
+/* Compares each call of the library with plain sums of its own, at lengths around lanes and blocks; then what is
+ * refused, with nothing written, and malloc refused at each call in turn. Prints each wrong row, and counts. */
+#include "morph_codes.h"
+#include <stdio.h>
+#include <stdlib.h>
+#include <string.h>
+
+#define K 6
+#define WIDE 12
+#define P 3
+
+typedef struct morph_codes_piece piece;
+typedef struct morph_codes_room room;
+
+static const size_t sizes[] = {0, 1, 31, 32, 33, 4095, 4096, 4097, 16385, 65536, 1048576};
+static const uint8_t points[P] = {1, 2, 4};
+static int passed, failed;
+
+/* How many calls of malloc and realloc are still granted; below 0 all are. */
+static long granted = -1;
+void *__real_malloc(size_t size);
+void *__real_realloc(void *old, size_t size);
+static int refuses(void) { return granted == 0 || (granted > 0 && granted-- == 0); }
+void *__wrap_malloc(size_t size) { return refuses() ? NULL : __real_malloc(size); }
+void *__wrap_realloc(void *old, size_t size) { return refuses() ? NULL : __real_realloc(old, size); }
+
+static void expect(int holds, const char *what, size_t size)
+{
+    if (holds) {
+        passed++;
+    } else {
+        failed++;
+        printf("codes: wrong: %s, %zu\n", what, size);
+    }
+}
+
+static uint8_t times(uint8_t a, uint8_t b)
+{
+    unsigned product = 0, factor = a;
+    for (; b; b >>= 1, factor = factor << 1 ^ (factor & 0x80 ? 0x11d : 0))
+        if (b & 1)
+            product ^= factor;
+    return (uint8_t)product;
+}
+
+static uint8_t power(uint8_t point, unsigned exponent)
+{
+    uint8_t result = 1;
+    while (exponent--)
+        result = times(result, point);
+    return result;
+}
+
+static uint8_t drawn(void)
+{
+    static uint64_t state = 88172645463325252u;
+    state ^= state << 13;
+    state ^= state >> 7;
+    state ^= state << 17;
+    return (uint8_t)(state >> 24);
+}
+
+/* `size` bytes of their own, so that the sanitizer sees a step beyond them. */
+static uint8_t *bytes(size_t size, int fill)
+{
+    uint8_t *made = malloc(size ? size : 1);
+    for (size_t x = 0; x < size; x++)
+        made[x] = fill < 0 ? drawn() : (uint8_t)fill;
+    return made;
+}
+
+/* The sum of pieces by a row, byte by byte. */
+static uint8_t *plain(const uint8_t *row, const piece *pieces, size_t count, size_t size)
+{
+    uint8_t *sum = bytes(size, 0);
+    for (size_t t = 0; t < count; t++) {
+        uint8_t table[256];
+        for (unsigned b = 0; b < 256; b++)
+            table[b] = times(row[t], (uint8_t)b);
+        for (size_t x = 0; x < size; x++)
+            sum[x] ^= table[pieces[t].bytes[x]];
+    }
+    return sum;
+}
+
+static uint8_t *parity(uint8_t point, const piece *pieces, size_t count, size_t size)
+{
+    uint8_t row[64];
+    for (size_t t = 0; t < count; t++)
+        row[t] = power(point, (unsigned)t);
+    return plain(row, pieces, count, size);
+}
+
+static int same(const uint8_t *a, const uint8_t *b, size_t size) { return memcmp(a, b, size) == 0; }
+
+/* The blocks of at most 4,096 columns at both ends, and one across the middle. */
+static void compare_blocks(const piece *pieces, const uint8_t *wanted, const uint8_t *row, size_t size)
+{
+    size_t count = size < 4096 ? size : 4096, starts[3] = {0, (size - count) / 2, size - count};
+    for (int i = 0; i < 3; i++) {
+        uint8_t *out = bytes(count, 0x77);
+        expect(morph_codes_encode_block(points[1], pieces, K, starts[i], out, count) == MORPH_CODES_DONE &&
+                   same(out, wanted + starts[i], count), "a block of a parity", size);
+        expect(morph_codes_combine(row, K, pieces, K, starts[i], out, count) == MORPH_CODES_DONE &&
+                   same(out, wanted + starts[i], count), "a block of a sum by a row", size);
+        free(out);
+    }
+}
+
+static void compare(size_t size)
+{
+    piece pieces[WIDE];
+    for (int t = 0; t < WIDE; t++)
+        pieces[t] = (piece){bytes(size, -1), size};
+    uint8_t *narrow[2][P];
+    for (int b = 0; b < 2; b++) {
+        room rooms[P];
+        for (int p = 0; p < P; p++)
+            rooms[p] = (room){narrow[b][p] = bytes(size, 0x77), size};
+        expect(morph_codes_encode(points, P, pieces + K * b, K, size, rooms, P) == MORPH_CODES_DONE, "encode", size);
+        for (int p = 0; p < P; p++) {
+            uint8_t *wanted = parity(points[p], pieces + K * b, K, size);
+            expect(same(narrow[b][p], wanted, size), "a parity", size);
+            free(wanted);
+        }
+    }
+    for (int p = 0; p < P; p++) {
+        piece two[2] = {{narrow[0][p], size}, {narrow[1][p], size}};
+        uint8_t *merged = bytes(size, 0x77), *wanted = parity(points[p], pieces, WIDE, size);
+        expect(morph_codes_merge(points[p], K, two, 2, 0, merged, size) == MORPH_CODES_DONE &&
+                   same(merged, wanted, size), "a merged parity", size);
+        free(merged);
+        free(wanted);
+    }
+    uint8_t row[K];
+    for (int t = 0; t < K; t++)
+        row[t] = power(points[1], (unsigned)t);
+    compare_blocks(pieces, narrow[0][1], row, size);
+    for (int t = 0; t < WIDE; t++)
+        free((void *)pieces[t].bytes);
+    for (int b = 0; b < 2; b++)
+        for (int p = 0; p < P; p++)
+            free(narrow[b][p]);
+}
+
+/* What is refused, and that nothing is written then. */
+static void refuse(void)
+{
+    static uint8_t data[8], out[8], kept[8];
+    piece many[65];
+    room rooms[2] = {{out, 8}, {kept, 8}};
+    memset(out, 0x77, 8);
+    memset(kept, 0x77, 8);
+    for (int t = 0; t < 65; t++)
+        many[t] = (piece){data, 8};
+    expect(morph_codes_encode_block(2, many, 65, 0, out, 8) == MORPH_CODES_WIDTH, "65 pieces of a block", 65);
+    expect(morph_codes_encode(points, 2, many, 65, 8, rooms, 2) == MORPH_CODES_WIDTH, "65 pieces", 65);
+    expect(morph_codes_encode(points, 3, many, 6, 8, rooms, 2) == MORPH_CODES_COUNT, "a room too few", 2);
+    rooms[1].length = 7;
+    expect(morph_codes_encode(points, 2, many, 6, 8, rooms, 2) == MORPH_CODES_COUNT, "a room too small", 7);
+    rooms[1].length = 8;
+    many[5].length = 7;
+    expect(morph_codes_encode(points, 2, many, 6, 8, rooms, 2) == MORPH_CODES_LENGTH, "a piece too short", 7);
+    expect(morph_codes_encode_block(2, many, 6, 4, out, 4) == MORPH_CODES_LENGTH, "a block too far", 4);
+    expect(morph_codes_encode_block(2, many, 6, SIZE_MAX, out, 8) == MORPH_CODES_LENGTH, "a start too far", 8);
+    expect(morph_codes_merge(2, 65, many, 2, 0, out, 8) == MORPH_CODES_WIDTH, "a width of 65", 65);
+    expect(morph_codes_merge(2, 6, many, 65, 0, out, 8) == MORPH_CODES_WIDTH, "65 parities", 65);
+    expect(morph_codes_merge(2, 6, many, 6, 0, out, 8) == MORPH_CODES_LENGTH, "a parity too short", 7);
+    expect(morph_codes_combine(data, 5, many, 6, 0, out, 8) == MORPH_CODES_COUNT, "a coefficient too few", 5);
+    expect(morph_codes_combine(data, 6, many, 6, 0, out, 8) == MORPH_CODES_LENGTH, "a short piece of a row", 6);
+    for (int x = 0; x < 8; x++)
+        expect(out[x] == 0x77 && kept[x] == 0x77, "a refusal has written", (size_t)x);
+}
+
+static void check(void)
+{
+    static const uint8_t four[5] = {1, 2, 4, 8, 16}, twice[2] = {3, 3}, zero[2] = {1, 0};
+    static const struct {
+        const uint8_t *points;
+        size_t count;
+        uint32_t width, status;
+    } rows[] = {
+        {four, 3, 6, MORPH_CODES_DONE},         {four, 4, 21, MORPH_CODES_DONE}, {four, 1, 64, MORPH_CODES_DONE},
+        {four, 4, 22, MORPH_CODES_UNDECODABLE}, {four, 5, 6, MORPH_CODES_POINTS}, {four, 0, 6, MORPH_CODES_POINTS},
+        {twice, 2, 6, MORPH_CODES_POINTS},      {zero, 2, 6, MORPH_CODES_POINTS}, {four, 1, 0, MORPH_CODES_WIDTH},
+        {four, 1, 65, MORPH_CODES_WIDTH},
+    };
+    for (size_t i = 0; i < sizeof rows / sizeof *rows; i++)
+        expect(morph_codes_check(rows[i].points, rows[i].count, rows[i].width) == rows[i].status, "check, row", i);
+    long refused = 0;
+    uint32_t status = MORPH_CODES_MEMORY;
+    for (; refused < 10000 && status == MORPH_CODES_MEMORY; refused++) {
+        granted = refused;
+        status = morph_codes_check(four, 4, 22);
+        granted = -1;
+    }
+    expect(refused > 1 && status == MORPH_CODES_UNDECODABLE, "check with malloc refused", (size_t)refused);
+}
+
+int main(void)
+{
+    for (size_t i = 0; i < sizeof sizes / sizeof *sizes; i++)
+        compare(sizes[i]);
+    refuse();
+    check();
+    granted = 0;
+    static uint8_t data[64], out[64];
+    piece one = {data, 64};
+    room made = {out, 64};
+    expect(morph_codes_encode(points, 1, &one, 1, 64, &made, 1) == MORPH_CODES_DONE &&
+               morph_codes_merge(2, 6, &one, 1, 0, out, 64) == MORPH_CODES_DONE &&
+               morph_codes_combine(points, 1, &one, 1, 0, out, 64) == MORPH_CODES_DONE, "without memory", 64);
+    granted = -1;
+    printf("codes: %d passed, %d failed\n", passed, failed);
+    return failed != 0;
+}

@@ -1,0 +1,32 @@
+-- What a caller hands in.
+use Rattle.std.specs.Prelude.{List, [], ℕ, ◌≡◌, ◌+◌, ◌<◌, ◌≤◌, All, length, map, slice_index, slice_index_or}
+use Rattle.mf_code.specs.Rows.{column}
+use Rattle.mf_code.specs.Sums.{weighted}
+use Rattle.morph_codes.specs.declared.handed.Piece.{Piece}
+use Rattle.morph_codes.specs.declared.handed.Room.{Room}
+
+-- The bytes of each piece, in turn.
+abbrev pub bytes_of : List Piece → List (List ℕ)
+bytes_of pieces = map (λ p. p.bytes.now) pieces
+
+-- The bytes of each room, in turn.
+abbrev pub rooms_of : List Room → List (List ℕ)
+rooms_of rooms = map (λ r. r.bytes.now) rooms
+
+-- Each piece has `count` columns from `start` on.
+abbrev pub HaveColumns : ℕ → ℕ → List Piece → Type 0
+HaveColumns start count pieces = All (λ piece. start + count ≤ length piece) (bytes_of pieces)
+
+-- Each room has `size` bytes.
+abbrev pub RoomsFit : ℕ → List Room → Type 0
+RoomsFit size rooms = (q : ℕ) → q < length rooms → length (slice_index_or (rooms_of rooms) q []) ≡ size
+
+-- The first n bytes are those of the parity with this point.
+abbrev pub IsFront : ℕ → List Piece → ℕ → List ℕ → Type 0
+IsFront point pieces n bytes =
+    (x : ℕ) → x < n → slice_index bytes x ≡ weighted point (column x (bytes_of pieces))
+
+-- The same of each room, by its point.
+abbrev pub AreFronts : List ℕ → List Piece → ℕ → List Room → Type 0
+AreFronts points pieces n rooms =
+    (q : ℕ) → q < length rooms → IsFront (slice_index points q) pieces n (slice_index_or (rooms_of rooms) q [])

@@ -3,6 +3,7 @@ pub mod Stripes
 pub mod Answers
 pub mod Decoding
 pub mod Gathering
+pub mod Caches
 -- Words of private functions.
 pub mod Fronts
 pub mod Plans

@@ -11,6 +11,7 @@ ghost use Rattle.mf_decode.specs.Gathering.{IsStripe, IsWhole, IsAnswer, HasAske
 
 use crate::applying::{apply, shared};
 use crate::asking::{Had, ask_parities, ask_pieces};
+use crate::caching::PlanCache;
 use crate::pieces::Pieces;
 use crate::planning::{DecodePlan, NoPlan, plan};
 use mf_kernel::{Chunk, Memory};
@@ -49,7 +50,41 @@ pub fn gather<P: Pieces>(
     ensures stays { (P.stripe pieces.new ≡ P.stripe pieces.old)
         × (P.made pieces.new ≡ P.made pieces.old) }
 {
-    match try_gather(alloc, pieces, points, width, count, chunk) {
+    gather_kept(
+        alloc,
+        &mut PlanCache::none(),
+        pieces,
+        points,
+        width,
+        count,
+        chunk,
+    )
+}
+
+/// The same, where the plan that it takes may be one that the cache keeps. A plan that finds no
+/// room there is used and dropped.
+pub fn gather_kept<P: Pieces>(
+    alloc: Global,
+    cache: &mut PlanCache,
+    pieces: &mut P,
+    points: &[u8],
+    width: u32,
+    count: u32,
+    chunk: u32,
+) -> Gathered
+    requires width { (1 ≤ width) × (width ≤ 64) }
+    requires points { length points.now ≤ 4 }
+    requires decodable { IsDecodable points.now width }
+    requires count { count ≤ width }
+    requires stripe { IsStripe chunk count points.now (P.stripe pieces.old) }
+    requires unbroken { P.failure pieces.old ≡ None }
+    ensures answer { IsAnswer (P.stripe pieces.old) result }
+    ensures asked { (asked : List Asked) × (P.answers pieces.new ≡ P.answers pieces.old ++ asked)
+        × HasAsked count (length points.now) asked (P.failure pieces.new) result }
+    ensures stays { (P.stripe pieces.new ≡ P.stripe pieces.old)
+        × (P.made pieces.new ≡ P.made pieces.old) }
+{
+    match try_gather(alloc, cache, pieces, points, width, count, chunk) {
         Ok(Some(chunks)) => Gathered::All(chunks),
         Ok(None) => Gathered::Short,
         Err(_) => Gathered::Memory,
@@ -59,6 +94,7 @@ pub fn gather<P: Pieces>(
 // The data, or None where the asking is short.
 fn try_gather<P: Pieces>(
     alloc: Global,
+    cache: &mut PlanCache,
     pieces: &mut P,
     points: &[u8],
     width: u32,
@@ -84,7 +120,16 @@ fn try_gather<P: Pieces>(
     if had.numbers.len() < erased.len() {
         return Ok(None);
     }
-    Ok(Some(restored(alloc, points, width, chunk, found, erased.as_slice(), &had)?))
+    Ok(Some(restored(
+        alloc,
+        cache,
+        points,
+        width,
+        chunk,
+        found,
+        erased.as_slice(),
+        &had,
+    )?))
 }
 
 /// The places of the pieces that are missing, ascending: what `plan` and `apply` ask to be erased.
@@ -106,6 +151,7 @@ pub fn gaps_of(alloc: Global, found: &[Option<Chunk>]) -> Result<Vec<u32>, Memor
 // no plan.
 fn restored(
     alloc: Global,
+    cache: &mut PlanCache,
     points: &[u8],
     width: u32,
     chunk: u32,
@@ -135,10 +181,40 @@ fn restored(
     if erased.is_empty() {
         return fill_gaps(alloc, found.as_slice(), &[]);
     }
-    let plan = sure_plan(alloc, points, width, erased, had.numbers.as_slice())?;
-    let lists = apply(alloc, &plan, chunk, found.as_slice(), had.chunks.as_slice())?;
+    let plan = kept_plan(alloc, cache, points, width, erased, had.numbers.as_slice())?;
+    let decoded = apply(alloc, &plan, chunk, found.as_slice(), had.chunks.as_slice());
+    cache.keep(plan);
+    let lists = decoded?;
     let fillings = chunks_of(alloc, lists)?;
     fill_gaps(alloc, found.as_slice(), fillings.as_slice())
+}
+
+// The plan of a decodable stripe: the one that the cache keeps, or one that is made.
+fn kept_plan(
+    alloc: Global,
+    cache: &mut PlanCache,
+    points: &[u8],
+    width: u32,
+    erased: &[u32],
+    parities: &[u32],
+) -> Result<DecodePlan, Memory>
+    requires width { (1 ≤ width) × (width ≤ 64) }
+    requires points { length points.now ≤ 4 }
+    requires decodable { IsDecodable points.now width }
+    requires erasure { IsErasure width (length points.now) erased.now parities.now }
+    ensures { IfOk result
+        (λ plan. plan
+        ≡ record {
+          points = points.now;
+          width = width;
+          erased = erased.now;
+          parities = parities.now;
+        }) }
+{
+    match cache.take(points, width, erased, parities) {
+        Some(plan) => Ok(plan),
+        None => sure_plan(alloc, points, width, erased, parities),
+    }
 }
 
 // The plan of a decodable stripe, which always has one.

@@ -15,22 +15,26 @@
 //!     Gathered::Short => ..,          // all parities were asked
 //! ```
 //!
+//! `gather_kept` does the same with a `PlanCache`, which keeps the plans that were used last.
+//!
 //! *Proved.* `plan` has none exactly where the matrix has no inverse, and then gives the kernel;
 //! `apply` gives the one data list that agrees with what was handed in; `gather` asks in the order
 //! of an asking, is Short exactly where the asking is short, and answers All with the data list
-//! with which the answers agree.
+//! with which the answers agree; `gather_kept` has the contract of `gather`.
 //!
-//! *Neither.* Speed.
+//! *Neither.* Speed, and which plans a cache keeps.
 #![tactic(auto)]
 
 mod applying;
 mod asking;
+mod caching;
 mod gathering;
 mod pieces;
 mod planning;
 
 pub use applying::{apply, apply_block};
-pub use gathering::{Gathered, gaps_of, gather};
+pub use caching::PlanCache;
+pub use gathering::{Gathered, gaps_of, gather, gather_kept};
 pub use mf_kernel::{Chunk, Memory};
 pub use mf_matrix::KernelList;
 pub use pieces::{Asked, Pieces, Place};

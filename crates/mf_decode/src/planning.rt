@@ -46,6 +46,27 @@ impl Model for DecodePlan {
     }) p.chosen.items p.inverse };
 }
 
+impl DecodePlan {
+    ghost use Rattle.std.specs.Bool.{OnTrue};
+
+    // Whether it is the plan of a stripe of this width and these points, with these places erased
+    // and these parities in their stead.
+    pub(crate) fn is_of(&self, points: &[u8], width: u32, erased: &[u32], parities: &[u32]) -> bool
+        ensures { OnTrue result (self.now
+            ≡ record {
+              points = points.now;
+              width = width;
+              erased = erased.now;
+              parities = parities.now;
+            }) }
+    {
+        self.points.as_slice() == points
+            && self.width == width
+            && self.erased.as_slice() == erased
+            && self.parities.as_slice() == parities
+    }
+}
+
 /// Why there is no plan.
 #[derive(Debug, Drop)]
 pub enum NoPlan {

@@ -9,6 +9,7 @@ pub mod Grouped
 pub mod Gathered
 pub mod Entries
 pub mod Shortage
+pub mod Handed
 pub mod Stripewise
 pub mod OnceRead
 pub mod OneRead

@@ -3,7 +3,19 @@ use Rattle.std.proofs.Common.{◌≡◌, ℕ, suc, ◌+◌, ◌*◌, ◌<◌, �
 use Rattle.std.proofs.Common.{Ok, Err, mul-le-mul_right}
 use Rattle.std.proofs.Common.{refl, sym, ap, ◌∙◌, subst, append-nil, inl, inr, arith, length-append}
 use Rattle.std.proofs.lemmas.Grind.{div_ceil_times}
-use Rattle.std.proofs.lemmas.List.{take_all}
+use Rattle.std.proofs.Common.{append_assoc, ◌^◌, ◌-◌}
+use Rattle.std.proofs.lemmas.List.{take_all, length-take, take-append-drop, take-take, append_cancel_left}
+use Rattle.std.specs.List.{concat}
+use Rattle.std.specs.declared.alloc.Global.{Global}
+use Rattle.std.specs.declared.vec.Vec.{Vec}
+use denote.RawPtr.{null_ptr}
+use Rattle.mf_lemmas.proofs.Parts.{take-append}
+use Rattle.mf_stripe.proofs.Cuts.{stripe-joined}
+use Rattle.mf_read.specs.Stripes.{chunks_of_stripe}
+use Rattle.mf_read.specs.declared.outcome.IntoOutcome.{IntoOutcome}
+use Rattle.mf_read.specs.declared.outcome.IntoOutcome.TheVariants as into
+use Rattle.mf_read.specs.Taking.{with_bytes, bytes_before, AreTaken, ReadsInto}
+use Rattle.mf_read.specs.Steps.{ReadsAny, HandsStripe, HandsUntil, HandsOn, bytes_at}
 use Rattle.mf_machine.specs.Actors.{on}
 use Rattle.mf_machine.specs.declared.answer.Slot.TheVariants.{Work}
 use Rattle.mf_machine.proofs.Lists.{bit_is}
@@ -26,7 +38,7 @@ use Rattle.mf_read.specs.Asking.{Ask, here_in, lost_in, away_in, IsAsked, IsAski
 use Rattle.mf_read.specs.Asking.{homes_of, missing, gets}
 use Rattle.mf_read.specs.Groups.{IsReader, asks_in}
 use Rattle.mf_read.specs.Reading.{AreServed, IsEnd, Ends, IsReadOf, IsThrough, IsRead, Reads, bears, stripes}
-use Rattle.mf_read.specs.Steps.{IsPinned, IsShortOf, LacksNames, bytes_before, ReadsStripe, ReadsAll, ReadsOf}
+use Rattle.mf_read.specs.Steps.{IsPinned, IsShortOf, LacksNames, ReadsStripe, ReadsAll, ReadsOf}
 use Rattle.mf_read.proofs.Asked.{does_on}
 use Rattle.mf_read.proofs.Parted.{opened_nil, begins}
 use Rattle.mf_read.proofs.Readers.{hold_stays, work_stays, work_all}
@@ -80,66 +92,153 @@ pub stripe_from : (g j n : ℕ) {a b : Actor} → n ≡ length a.entries
     → (asks : List Ask) × IsShort a.facts.book g j asks × Does (gets a.facts asks) a b → n ≤ length b.entries
 stripe_from g j n {a = a} e (asks, short, does) = let low = from_low a.facts asks does in omega arith
 
-pub stripe_short : (g j n : ℕ) (o : ReadOutcome) {a b : Actor} → n ≡ length a.entries
+pub stripe_short : (g j n : ℕ) (o : IntoOutcome) {a b : Actor} → n ≡ length a.entries
     → (asks : List Ask) × IsShort a.facts.book g j asks × Does (gets a.facts asks) a b
-    → IsShortOf (bears b.facts.book g) g j (asks_in (drop n b.entries)) o
-    → (cs : List Call) × IsEnd a.facts g j o cs × Does cs a b
+    → ((v : Vec ℕ Global) → IsShortOf (bears b.facts.book g) g j (asks_in (drop n b.entries)) (with_bytes o v))
+    → ReadsStripe g j (Err o) a b
 stripe_short g j n o {a = a} {b = b} e (asks, short, does) is =
     let told = asks_told a.facts asks n b.entries e refl does in
     let f = facts_stay does in (
       gets a.facts asks,
-      ends_short a.facts g j asks o short
-          (subst (λ (k : Facts). IsShortOf (bears k.book g) g j asks o) f (subst (λ (l : List Ask). IsShortOf
-          (bears b.facts.book g) g j l o) told is)),
+      (λ v. ends_short a.facts g j asks (with_bytes o v) short
+          (subst (λ (k : Facts). IsShortOf (bears k.book g) g j asks (with_bytes o v)) f (subst (λ
+          (l : List Ask). IsShortOf (bears b.facts.book g) g j l (with_bytes o v)) told (is v)))),
       does,
     )
 
+-- ---- the bytes of a stripe
+
+-- they stand behind those of the stripes before it
+up_to : (f : Facts) (g n : ℕ) → n * width_at f.book.shape.stages g * f.book.chunk
+    ≤ (n + 1) * width_at f.book.shape.stages g * f.book.chunk
+up_to f g n =
+    let w = width_at f.book.shape.stages g in
+    let low : n * w ≤ (n + 1) * w = mul-le-mul_right w (let z : n ≤ n + 1 = omega arith in z) in
+    mul-le-mul_right f.book.chunk low
+
+pub stripe_bytes : (f : Facts) (g n : ℕ) → bytes_before f g (n + 1) ≡ bytes_before f g n ++ bytes_at f g n
+stripe_bytes f g n =
+    let p = n * width_at f.book.shape.stages g * f.book.chunk in
+    let m = (n + 1) * width_at f.book.shape.stages g * f.book.chunk in
+    sym (take-append-drop p (take m f.bytes))
+    ∙ ap (λ (l : List ℕ). l ++ drop p (take m f.bytes)) (take-take p m f.bytes (up_to f g n))
+
+-- a front of them, behind those, is a front of the file's
+pub front_of : (f : Facts) (g n : ℕ) (front rest : List ℕ) → bytes_at f g n ≡ front ++ rest
+    → (others : List ℕ) × (f.bytes ≡ (bytes_before f g n ++ front) ++ others)
+front_of f g n front rest e =
+    let m = (n + 1) * width_at f.book.shape.stages g * f.book.chunk in
+    let others = rest ++ drop m f.bytes in (
+      others,
+      sym (take-append-drop m f.bytes)
+          ∙ ap (λ (l : List ℕ). l ++ drop m f.bytes) (stripe_bytes f g n
+          ∙ ap (λ (l : List ℕ). bytes_before f g n ++ l) e ∙ sym (append_assoc (bytes_before f g n) front rest))
+          ∙ append_assoc (bytes_before f g n ++ front) rest (drop m f.bytes),
+    )
+
+-- they are what its chunks have, as far as the file reaches
+pub chunk_bytes : (f : Facts) (g n : ℕ) → IsFile f
+    → take (length f.bytes - n * width_at f.book.shape.stages g * f.book.chunk) (concat (chunks_of_stripe f g n))
+    ≡ bytes_at f g n
+chunk_bytes f g n file =
+    let w = width_at f.book.shape.stages g in
+    let p = n * w * f.book.chunk in
+    let front = bytes_before f g n in
+    let chunks = concat (chunks_of_stripe f g n) in
+    let low = length-take p f.bytes in
+    let joined = stripe-joined f.book.chunk f.bytes w n front file.layout.chunk.0 refl in
+    let e : length f.bytes - length front ≡ length f.bytes - p = omega (arith, low) in
+    append_cancel_left front _ _
+    (ap (λ (l : List ℕ). l ++ take (length f.bytes - p) chunks) (sym (take_all (length f.bytes) front (omega (
+      arith,
+      low,
+    ))))
+    ∙ ap (λ (k : ℕ). take (length f.bytes) front ++ take k chunks) (sym e)
+    ∙ sym (take-append (length f.bytes) front chunks) ∙ joined ∙ stripe_bytes f g n)
+
+-- nothing was handed on of a stripe
+pub none_until : (bytes : List ℕ) (o : IntoOutcome) (before : List ℕ) → HandsUntil bytes o before before
+none_until bytes (into.Bytes g count from) before = refl
+none_until bytes (into.DataLost g j lost) before = refl
+none_until bytes (into.Unreachable g j x server) before = refl
+none_until bytes into.Absent before = refl
+none_until bytes into.Removed before = refl
+none_until bytes into.Memory before = ([], bytes, refl, sym (append-nil before))
+
 -- ---- stripes in turn
 
-pub record Reading (g n : ℕ) (bytes : List ℕ) (a b : Actor) : Type 0 where
+pub record Reading (g n : ℕ) (before now : List ℕ) (a b : Actor) : Type 0 where
   pub asks : List Ask
   pub served : AreServed a.facts.book g n asks
   pub does : Does (gets a.facts asks) a b
-  pub bytes_are : bytes ≡ bytes_before a.facts g n
+  pub told : now ≡ before ++ bytes_before a.facts g n
 
-pub none_read : (g : ℕ) (a : Actor) → Reading g 0 [] a a
-none_read g a = record {
+pub none_read : (g : ℕ) (before : List ℕ) (a : Actor) → Reading g 0 before before a a
+none_read g before a = record {
   asks = [];
   served = refl;
   does = nothing a;
-  bytes_are = let w = width_at a.facts.book.shape.stages g in let z : 0 * w * a.facts.book.chunk ≡ 0 = omega arith in
-      ap (λ (k : ℕ). take k a.facts.bytes) (sym z);
+  told = let w = width_at a.facts.book.shape.stages g in
+      let z : 0 * w * a.facts.book.chunk ≡ 0 = omega arith in
+      sym (append-nil before) ∙ ap (λ (k : ℕ). before ++ take k a.facts.bytes) (sym z);
 }
 
-pub one_read : (g n : ℕ) (bytes : List ℕ) (r : Result Unit ReadOutcome) (more : List ℕ) {x : Unit} {a b c : Actor}
-    → Reading g n bytes a b → r ≡ Ok x → ReadsStripe g n r more b c
-    → Reading g (n + 1) more a c
-one_read g n bytes r more {x = x} {a = a} {b = b} {c = c} t e read =
-    let (asks, is, does, bytes_are) = subst (λ (z : Result Unit ReadOutcome). ReadsStripe g n z more b c) e read in
+pub one_read : (g n : ℕ) (before now : List ℕ) (r : Result Unit IntoOutcome) (more : List ℕ) {x : Unit} {a b c : Actor}
+    → Reading g n before now a b → r ≡ Ok x → ReadsStripe g n r b c → HandsStripe (bytes_at b.facts g n) r now more
+    → Reading g (n + 1) before more a c
+one_read g n before now r more {x = x} {a = a} {b = b} {c = c} t e read hands =
+    let (asks, is, does) = subst (λ (z : Result Unit IntoOutcome). ReadsStripe g n z b c) e read in
+    let told = subst (λ (z : Result Unit IntoOutcome). HandsStripe (bytes_at b.facts g n) z now more) e hands in
     let f = facts_stay t.does in
     record {
       asks = t.asks ++ asks;
       served = subst (λ (k : ℕ). AreServed a.facts.book g k (t.asks ++ asks)) (let z : suc n ≡ n + 1 = omega arith in z)
           (t.asks, asks, t.served, subst (λ (k : Facts). IsServed k.book g n asks) f is, refl);
       does = does_on t.asks asks t.does does;
-      bytes_are = bytes_are ∙ ap (λ (k : Facts). bytes_before k g (n + 1)) f;
+      told = told ∙ ap (λ (k : Facts). now ++ bytes_at k g n) f ∙ ap (λ (l : List ℕ). l ++ bytes_at a.facts g n) t.told
+          ∙ append_assoc before (bytes_before a.facts g n) (bytes_at a.facts g n)
+          ∙ ap (λ (l : List ℕ). before ++ l) (sym (stripe_bytes a.facts g n));
     }
 
-pub ended_there : (g n : ℕ) (bytes : List ℕ) (o : ReadOutcome) {a b c : Actor} → Reading g n bytes a b
-    → (cs : List Call) × IsEnd b.facts g n o cs × Does cs b c
-    → ReadsAll g (Err o) a c
-ended_there g n bytes o {a = a} t (cs, is, does) = (
+pub ended_there : (g n : ℕ) (before now : List ℕ) (o : IntoOutcome) {a b c : Actor} → Reading g n before now a b
+    → ReadsStripe g n (Err o) b c → ReadsAll g (Err o) a c
+ended_there g n before now o {a = a} t (cs, is, does) = (
   gets a.facts t.asks ++ cs,
-  (
+  (λ v. (
     n,
     t.asks,
     cs,
     t.served,
-    subst (λ (k : Facts). IsEnd k g n o cs) (facts_stay t.does) is,
+    subst (λ (k : Facts). IsEnd k g n (with_bytes o v) cs) (facts_stay t.does) (is v),
     refl,
-  ),
+  )),
   then t.does does,
 )
+
+-- what was handed on before the end
+pub ended_hands : (v : Vec ℕ Global) (g n : ℕ) (before now after : List ℕ) (o : IntoOutcome) {a b c : Actor}
+    → Reading g n before now a b → ReadsStripe g n (Err o) b c → HandsUntil (bytes_at b.facts g n) o now after
+    → HandsOn a.facts o before after
+ended_hands v g n before now after o {a = a} {b = b} t (cs, is, does) hands =
+    let same = facts_stay t.does in
+    until a.facts g n before now after o cs t.told (subst (λ (k : Facts). IsEnd k g n (with_bytes o v) cs) same (is v))
+    (subst (λ (k : Facts). HandsUntil (bytes_at k g n) o now after) same hands)
+  where
+    until : (f : Facts) (g n : ℕ) (before now after : List ℕ) (o : IntoOutcome) (cs : List Call)
+        → now ≡ before ++ bytes_before f g n → IsEnd f g n (with_bytes o v) cs
+        → HandsUntil (bytes_at f g n) o now after → HandsOn f o before after
+    until f g n before now after (into.Bytes h count from) cs told end hands = absurd end
+    until f g n before now after into.Absent cs told end hands = absurd end
+    until f g n before now after into.Removed cs told end hands = absurd end
+    until f g n before now after (into.DataLost h k lost) cs told (asks, eg, ej, short, calls, is, many) hands =
+        (bytes_before f h k, hands ∙ told ∙ (λ i. before ++ bytes_before f (sym eg i) (sym ej i)), refl)
+    until f g n before now after (into.Unreachable h k x server) cs told (asks, eg, ej, short, calls, few, gone) hands =
+        (bytes_before f h k, hands ∙ told ∙ (λ i. before ++ bytes_before f (sym eg i) (sym ej i)), refl)
+    until f g n before now after into.Memory cs told end (front, rest, e, taken) = (
+      bytes_before f g n ++ front,
+      taken ∙ ap (λ (l : List ℕ). l ++ front) told ∙ append_assoc before (bytes_before f g n) front,
+      front_of f g n front rest e,
+    )
 
 -- want of memory before the first stripe
 pub nothing_cut : (f : Facts) (g j : ℕ) → IsCut f g j []
@@ -161,9 +260,6 @@ nothing_cut f g j =
       },
       inl refl,
     )
-
-pub no_room : (g : ℕ) (a : Actor) → ReadsAll g (Err Memory) a a
-no_room g a = ([], (0, [], [], refl, nothing_cut a.facts g 0, refl), nothing a)
 
 -- all stripes have all bytes
 times_more : (a b c : ℕ) → a ≤ b → a * c ≤ b * c
@@ -246,13 +342,90 @@ read_pinned g o missed {a = a} {b = b} {c = c} {d = d} e goes (inner, is, does) 
     )
 
 -- where a read of a generation ended
-pub ended_of : (g : ℕ) (o : ReadOutcome) {a b : Actor} → ReadsAll g (Err o) a b → ReadsOf g o a b
-ended_of g (Bytes h bytes from) (cs, (j, front, rest, served, end, e), does) = absurd end
-ended_of g (DataLost h k lost) (cs, ends, does) = (cs, ends, does)
-ended_of g (Unreachable h k x server) (cs, ends, does) = (cs, ends, does)
-ended_of g Memory (cs, ends, does) = (cs, ends, does)
-ended_of g Absent (cs, (j, front, rest, served, end, e), does) = absurd end
-ended_of g Removed (cs, (j, front, rest, served, end, e), does) = absurd end
+ended : (g : ℕ) (f : Facts) (o : ReadOutcome) (cs : List Call) → Ends f g o cs → IsReadOf f g o cs
+ended g f (Bytes h bytes from) cs (j, front, rest, served, end, e) = absurd end
+ended g f (DataLost h k lost) cs ends = ends
+ended g f (Unreachable h k x server) cs ends = ends
+ended g f Memory cs ends = ends
+ended g f Absent cs (j, front, rest, served, end, e) = absurd end
+ended g f Removed cs (j, front, rest, served, end, e) = absurd end
+
+pub ended_of : (g : ℕ) (o : IntoOutcome) {a b : Actor} → ReadsAll g (Err o) a b → ReadsAny g o a b
+ended_of g o {a = a} (cs, ends, does) = (cs, (λ v e. ended g a.facts (with_bytes o v) cs (ends v)), does)
+
+-- a vector of bytes
+abbrev pub vector : Global → (bytes : List ℕ) → length bytes < 2 ^ 63 → Vec ℕ Global
+vector alloc bytes low = record {
+  ptr = null_ptr;
+  len = length bytes;
+  cap = length bytes;
+  alloc = alloc;
+  items = bytes;
+  ok = (refl, omega arith);
+  small = low;
+}
+
+pub few_bytes : (f : Facts) → IsFile f → length f.bytes < 2 ^ 63
+few_bytes f file = let long = file.long in let most = file.layout.bytes in omega arith
+
+-- the read, with a vector of the file's bytes
+pub read_by : (alloc : Global) (g : ℕ) (o : IntoOutcome) {a b : Actor} → (file : IsFile a.facts) → ReadsAny g o a b
+    → ReadsOf g (with_bytes o (vector alloc a.facts.bytes (few_bytes a.facts file))) a b
+read_by alloc g o {a = a} file (cs, is, does) =
+    (cs, is (vector alloc a.facts.bytes (few_bytes a.facts file)) refl, does)
+
+pub into_held : (alloc : Global) (g : ℕ) (o : IntoOutcome) (before after : List ℕ) {a b : Actor} → IsFile a.facts
+    → g + 1 ≡ a.view.hold → ReadsAny g o a b → HandsOn a.facts o before after → ReadsInto o before after a b
+into_held alloc g o before after {a = a} file held reads (taken, told, are) =
+    let v = vector alloc a.facts.bytes (few_bytes a.facts file) in
+    record {
+      bytes = v;
+      reads = read_held g (with_bytes o v) held (read_by alloc g o file reads);
+      taken = taken;
+      told = told;
+      are = are;
+    }
+
+pub into_pinned : (alloc : Global) (g : ℕ) (o : IntoOutcome) (missed before after : List ℕ) {a b c d : Actor}
+    → IsFile a.facts → 0 ≡ a.view.hold → Goes (pin Work missed (pinned.At g)) a b → ReadsAny g o b c
+    → HandsOn b.facts o before after → Goes (unpin Work) c d → ReadsInto o before after a d
+into_pinned alloc g o missed before after {a = a} {b = b} file free goes reads (taken, told, are) frees =
+    let same : b.facts ≡ a.facts = ap (λ (z : Actor). z.facts) goes.becomes in
+    let file' = subst IsFile (sym same) file in
+    let v = vector alloc b.facts.bytes (few_bytes b.facts file') in
+    record {
+      bytes = v;
+      reads = read_pinned g (with_bytes o v) missed free goes (read_by alloc g o file' reads) frees;
+      taken = taken;
+      told = told;
+      are = subst (λ (k : Facts). AreTaken k o taken) same are;
+    }
+
+-- a read that gave the bytes in one vector gave them in another
+pub other_bytes : (f : Facts) (hold : ℕ) (o : IntoOutcome) (cs : List Call) (v w : Vec ℕ Global) → w.items ≡ f.bytes
+    → IsRead f hold (with_bytes o v) cs → IsRead f hold (with_bytes o w) cs
+other_bytes f hold (into.Bytes g count from) cs v w e (h, inner, (asks, eg, served, calls, bytes, few), through) =
+    (h, inner, (asks, eg, served, calls, e, few), through)
+other_bytes f hold (into.DataLost g j lost) cs v w e is = is
+other_bytes f hold (into.Unreachable g j x server) cs v w e is = is
+other_bytes f hold into.Memory cs v w e is = is
+other_bytes f hold into.Absent cs v w e is = is
+other_bytes f hold into.Removed cs v w e is = is
+
+-- what was collected of a read
+pub collected : (o : IntoOutcome) (w : Vec ℕ Global) {a b : Actor} → ReadsInto o [] w.items a b
+    → Reads (with_bytes o w) a b
+collected o w {a = a} {b = b} r = given o r
+  where
+    given : (o : IntoOutcome) → ReadsInto o [] w.items a b → Reads (with_bytes o w) a b
+    given (into.Bytes g count from) r =
+        let (cs, is, does) = r.reads in
+        (cs, other_bytes a.facts a.view.hold (into.Bytes g count from) cs r.bytes w (r.told ∙ r.are.0) is, does)
+    given (into.DataLost g j lost) r = r.reads
+    given (into.Unreachable g j x server) r = r.reads
+    given into.Memory r = r.reads
+    given into.Absent r = r.reads
+    given into.Removed r = r.reads
 
 -- the Work pin is still there after the asks of a read
 work_freed : (g : ℕ) (o : ReadOutcome) {a b : Actor} → ReadsOf g o a b → b.view.work ≡ a.view.work
@@ -319,3 +492,11 @@ may_free g o missed {a = a} {b = b} {c = c} goes read =
     let e : b.view.work ≡ g + 1 = ap (λ (z : Actor). z.view.work) goes.becomes
     ∙ tried_work a.facts missed (pinned.At g) a.view in
     let d = work_freed g o read in omega arith
+
+pub frees_pin : (alloc : Global) (g : ℕ) (o : IntoOutcome) (missed : List ℕ) {a b c : Actor} → IsFile a.facts
+    → Goes (pin Work missed (pinned.At g)) a b → ReadsAny g o b c → 0 < c.view.work
+frees_pin alloc g o missed {a = a} {b = b} file goes reads =
+    let same : b.facts ≡ a.facts = ap (λ (z : Actor). z.facts) goes.becomes in
+    let file' = subst IsFile (sym same) file in
+    may_free g (with_bytes o (vector alloc b.facts.bytes (few_bytes b.facts file'))) missed goes
+    (read_by alloc g o file' reads)

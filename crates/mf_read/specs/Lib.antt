@@ -1,5 +1,6 @@
 pub mod Asking
 pub mod Reading
+pub mod Taking
 pub mod Laws
 pub mod Texts
 -- what a stripe is asked from, and what came of it

@@ -7,7 +7,7 @@ ghost use Rattle.mf_read.specs.Groups.{IsReader};
 use crate::asker::{Asker, Begun};
 use crate::asking::stage;
 use mf_check::Family;
-use mf_decode::{Gathered, gather};
+use mf_decode::{Gathered, PlanCache, gather_kept};
 use mf_vault::Fetch;
 use std::alloc::Global;
 use std::marker::{Brand, PhantomData};
@@ -15,6 +15,7 @@ use std::marker::{Brand, PhantomData};
 // All data of the asker's stripe.
 fn gather_by<'a, A: Fetch, K: Begun>(
     alloc: Global,
+    cache: &mut PlanCache,
     asker: &mut Asker<'a, A, K>,
     family: &Family,
 ) -> Gathered
@@ -30,7 +31,7 @@ fn gather_by<'a, A: Fetch, K: Begun>(
     let count = asker.access.book().pieces(asker.g, asker.j);
     let chunk = asker.access.book().chunk();
     let points = &family.points()[..stage.parities as usize];
-    gather(alloc, asker, points, stage.width, count, chunk)
+    gather_kept(alloc, cache, asker, points, stage.width, count, chunk)
 }
 
 // All data of stripe j of generation g, by an asking that begins here.
@@ -38,6 +39,7 @@ fn gather_from<A: Fetch, K: Begun>(
     alloc: Global,
     access: &mut A,
     family: &Family,
+    cache: &mut PlanCache,
     g: u32,
     j: u32,
 ) -> Gathered
@@ -54,7 +56,7 @@ fn gather_from<A: Fetch, K: Begun>(
         stopped: None,
         start: PhantomData::<K>,
     };
-    gather_by(alloc, &mut asker, family)
+    gather_by(alloc, cache, &mut asker, family)
 }
 
 /// All data of stripe j of generation g, which is pinned: each chunk is asked for where the
@@ -72,5 +74,22 @@ pub fn gather_stripe<A: Fetch>(
     requires reader { IsReader g j (A.actor access.old) }
     ensures { Gathers g j result (A.actor access.old) (A.actor access.new) }
 {
-    gather_from::<A, Brand>(alloc, access, family, g, j)
+    gather_with(alloc, access, family, &mut PlanCache::none(), g, j)
+}
+
+// The same, with the plans of the cache.
+pub(crate) fn gather_with<A: Fetch>(
+    alloc: Global,
+    access: &mut A,
+    family: &Family,
+    cache: &mut PlanCache,
+    g: u32,
+    j: u32,
+) -> Gathered
+    requires family { IsOfFamily family.now.shape family.now.points
+        (A.actor access.old).facts.book }
+    requires reader { IsReader g j (A.actor access.old) }
+    ensures { Gathers g j result (A.actor access.old) (A.actor access.new) }
+{
+    gather_from::<A, Brand>(alloc, access, family, cache, g, j)
 }

@@ -13,13 +13,17 @@
 //!     ReadOutcome::DataLost { g, stripe, lost } => ..,
 //! ```
 //!
+//! `read_into` hands the bytes on to a `Taker`, stripe by stripe, and has an `IntoOutcome`, which is
+//! the same without the bytes. It takes a `PlanCache` for the stripes of which chunks are missing.
+//!
 //! *Proved.* `read`, over any access: the calls that it made, with their answers, are those of its
 //! outcome (`Reads`). It goes through the Hold slot's generation, or through a Work pin of its own
 //! that it frees. Bytes are the file's, each chunk had once; data is lost only where more names of
 //! one stripe were found lost than the generation bears, and all are listed as found; a name is
-//! unreachable only where no more are lost. Laws: a short asking without a name that is away lacks
-//! more than is borne; a read of an actor alone has one outcome and leaves one actor, want of
-//! memory aside.
+//! unreachable only where no more are lost. `read_into` does what such a read does (`ReadsInto`). It
+//! has handed on the file's bytes; where a stripe couldn't be had, those of the stripes before; where
+//! memory ran out, a front. Laws: a short asking without a name that is away lacks more than is
+//! borne; a read of an actor alone has one outcome and leaves one actor, want of memory aside.
 //!
 //! *Neither.* Speed.
 #![tactic(auto)]
@@ -31,11 +35,14 @@ mod law;
 mod outcome;
 mod reading;
 mod short;
+mod taking;
 mod texts;
 
 pub use gathering::gather_stripe;
 pub use law::{read_has_one_result, short_has_lost};
 pub use mf_check::Family;
+pub use mf_decode::{Memory, PlanCache};
 pub use mf_vault::{Fetch, Name};
-pub use outcome::{LostNames, ReadOutcome};
-pub use reading::read;
+pub use outcome::{IntoOutcome, LostNames, ReadOutcome};
+pub use reading::{read, read_into};
+pub use taking::Taker;

@@ -1,5 +1,9 @@
 //! The reader.
-ghost use Rattle.std.specs.Prelude.{◌≡◌, ◌+◌, ◌<◌, ◌≤◌, [], length, drop, IfOk};
+ghost use Rattle.std.specs.Prelude.{◌≡◌, ℕ, ◌-◌, ◌*◌, ◌<◌, ◌≤◌, [], length, drop, take};
+ghost use Rattle.std.specs.List.{concat};
+ghost use Rattle.std.specs.declared.alloc.Global.{Global};
+ghost use Rattle.std.specs.declared.vec.Vec.{Vec};
+ghost use Rattle.mf_shape.specs.Stages.{width_at};
 ghost use Rattle.mf_machine.specs.declared.answer.Slot.TheVariants.{Work};
 ghost use Rattle.mf_vault.specs.May.{MayPin};
 ghost use Rattle.mf_vault.specs.Conditions.{IsOfFamily};
@@ -7,16 +11,19 @@ ghost use Rattle.mf_vault.specs.Facts.{stages};
 ghost use Rattle.mf_read.specs.Groups.{IsReader, asks_in};
 ghost use Rattle.mf_read.specs.Reading.{Reads, bears};
 ghost use Rattle.mf_read.specs.Steps.{IsPinned, IsShortOf, LacksNames};
-ghost use Rattle.mf_read.specs.Steps.{ReadsStripe, ReadsAll, ReadsOf, bytes_before};
+ghost use Rattle.mf_read.specs.Steps.{ReadsStripe, ReadsAll, ReadsAny, bytes_at};
+ghost use Rattle.mf_read.specs.Steps.{Hands, HandsStripe, HandsAll, HandsOn};
+ghost use Rattle.mf_read.specs.Taking.{ReadsInto, with_bytes};
 ghost use Rattle.mf_read.specs.Stripes.{chunks_of_stripe};
 
-use crate::gathering::gather_stripe;
-use crate::outcome::ReadOutcome;
+use crate::asking::stage;
+use crate::gathering::gather_with;
+use crate::outcome::{IntoOutcome, ReadOutcome};
 use crate::short::short;
+use crate::taking::Taker;
 use mf_check::Family;
-use mf_decode::Gathered;
+use mf_decode::{Gathered, PlanCache};
 use mf_kernel::{Chunk, Memory};
-use mf_stripe::join;
 use mf_vault::{Entry, Fetch, Pinned, Slot};
 use std::alloc::Global;
 
@@ -29,96 +36,136 @@ fn entries_from(entries: &[Entry], from: usize) -> &[Entry]
 }
 
 // What the short asking of stripe j comes to that has the entries from number `from` on.
-fn short_from<A: Fetch>(alloc: Global, access: &A, g: u32, j: u32, from: usize) -> ReadOutcome
+fn short_from<A: Fetch>(alloc: Global, access: &A, g: u32, j: u32, from: usize) -> IntoOutcome
     requires stage { g < stages (A.actor access.now).facts }
     requires from { from ≤ length (A.actor access.now).entries }
     requires lost { LacksNames g from (A.actor access.now) }
-    ensures { IsShortOf (bears (A.actor access.now).facts.book g) g j
-        (asks_in (drop from (A.actor access.now).entries)) result }
+    ensures { (bytes : Vec ℕ Global)
+        → IsShortOf (bears (A.actor access.now).facts.book g) g j
+        (asks_in (drop from (A.actor access.now).entries)) (with_bytes result bytes) }
 {
     let most = access.book().tolerance(g);
     let entries = entries_from(access.ledger(), from);
     short(alloc, most, g, j, entries)
 }
 
-// Appends the stripe's chunks to the bytes before them.
-fn append<A: Fetch>(
+// Hands the chunks on, in order, up to `left` bytes.
+fn hand_on<T: Taker>(taker: &mut T, chunks: &[Chunk], left: usize) -> Result<(), Memory>
+    ensures { Hands (take left (concat chunks.now)) result
+        (T.taken taker.old) (T.taken taker.new) }
+{
+    let mut room = left;
+    for chunk in chunks {
+        let bytes = chunk.bytes();
+        let end = room.min(bytes.len());
+        taker.take(&bytes[..end])?;
+        room -= end;
+    }
+    Ok(())
+}
+
+// How many bytes of the file lie behind the stripes before stripe j.
+fn bytes_left<A: Fetch>(access: &A, g: u32, j: u32) -> usize
+    requires stage { g < stages (A.actor access.now).facts }
+    ensures { result ≡ length (A.actor access.now).facts.bytes
+        - j * width_at (A.actor access.now).facts.book.shape.stages g
+        * (A.actor access.now).facts.book.chunk }
+{
+    let width = stage(access, g).width as usize;
+    let chunk = access.book().chunk() as usize;
+    let length = access.book().length() as usize;
+    length.saturating_sub(j as usize * width * chunk)
+}
+
+// Hands the bytes of stripe j of generation g on, which are in these chunks.
+fn hand_stripe<A: Fetch, T: Taker>(
     access: &A,
-    bytes: &mut Vec<u8>,
+    taker: &mut T,
     chunks: &[Chunk],
     g: u32,
     j: u32,
 ) -> Result<(), Memory>
-    requires bytes { bytes.old.items ≡ bytes_before (A.actor access.now).facts g j }
+    requires stage { g < stages (A.actor access.now).facts }
     requires chunks { chunks.now ≡ chunks_of_stripe (A.actor access.now).facts g j }
-    ensures { IfOk result (λ _. bytes.new.items
-        ≡ bytes_before (A.actor access.now).facts g (j + 1)) }
+    ensures { Hands (bytes_at (A.actor access.now).facts g j) result
+        (T.taken taker.old) (T.taken taker.new) }
 {
-    let most = access.book().length() as usize;
-    join(bytes, chunks, most)
+    let left = bytes_left(access, g, j);
+    hand_on(taker, chunks, left)
 }
 
-// Reads stripe j of generation g. Its bytes are appended, or the read ends there.
-fn read_stripe<A: Fetch>(
+// Reads stripe j of generation g. Its bytes are handed on, or the read ends there.
+fn read_stripe<A: Fetch, T: Taker>(
     alloc: Global,
     access: &mut A,
     family: &Family,
+    cache: &mut PlanCache,
+    taker: &mut T,
     g: u32,
     j: u32,
-    bytes: &mut Vec<u8>,
-) -> Result<(), ReadOutcome>
+) -> Result<(), IntoOutcome>
     requires family { IsOfFamily family.now.shape family.now.points
         (A.actor access.old).facts.book }
     requires reader { IsReader g j (A.actor access.old) }
-    requires bytes { bytes.old.items ≡ bytes_before (A.actor access.old).facts g j }
-    ensures { ReadsStripe g j result bytes.new.items (A.actor access.old) (A.actor access.new) }
+    ensures reads { ReadsStripe g j result (A.actor access.old) (A.actor access.new) }
+    ensures hands { HandsStripe (bytes_at (A.actor access.old).facts g j) result
+        (T.taken taker.old) (T.taken taker.new) }
 {
     let from = access.ledger().len();
-    match gather_stripe(alloc, access, family, g, j) {
-        Gathered::All(chunks) => match append(access, bytes, chunks.as_slice(), g, j) {
+    match gather_with(alloc, access, family, cache, g, j) {
+        Gathered::All(chunks) => match hand_stripe(access, taker, chunks.as_slice(), g, j) {
             Ok(()) => Ok(()),
-            Err(_) => Err(ReadOutcome::Memory),
+            Err(_) => Err(IntoOutcome::Memory),
         },
         Gathered::Short => Err(short_from(alloc, access, g, j, from)),
-        Gathered::Memory => Err(ReadOutcome::Memory),
+        Gathered::Memory => Err(IntoOutcome::Memory),
     }
 }
 
-// Reads all stripes of generation g: the file's bytes, or why the read ended.
-fn read_stripes<A: Fetch>(
+// Reads all stripes of generation g, or says why the read ended.
+fn read_stripes<A: Fetch, T: Taker>(
     alloc: Global,
     access: &mut A,
     family: &Family,
+    cache: &mut PlanCache,
+    taker: &mut T,
     g: u32,
-) -> Result<Vec<u8>, ReadOutcome>
+) -> Result<(), IntoOutcome>
     requires family { IsOfFamily family.now.shape family.now.points
         (A.actor access.old).facts.book }
     requires pinned { IsPinned g (A.actor access.old) }
-    ensures { ReadsAll g result (A.actor access.old) (A.actor access.new) }
+    ensures reads { ReadsAll g result (A.actor access.old) (A.actor access.new) }
+    ensures hands { HandsAll (A.actor access.old).facts result
+        (T.taken taker.old) (T.taken taker.new) }
 {
-    let length = access.book().length() as usize;
-    let Ok(mut bytes) = Vec::with_capacity(alloc, length) else {
-        return Err(ReadOutcome::Memory);
-    };
     for j in 0..access.book().stripes(g) {
-        if let Err(outcome) = read_stripe(alloc, access, family, g, j, &mut bytes) {
+        if let Err(outcome) = read_stripe(alloc, access, family, cache, taker, g, j) {
             return Err(outcome);
         }
     }
-    Ok(bytes)
+    Ok(())
 }
 
 // Reads generation g, which is pinned.
-fn read_generation<A: Fetch>(alloc: Global, access: &mut A, family: &Family, g: u32) -> ReadOutcome
+fn read_generation<A: Fetch, T: Taker>(
+    alloc: Global,
+    access: &mut A,
+    family: &Family,
+    cache: &mut PlanCache,
+    taker: &mut T,
+    g: u32,
+) -> IntoOutcome
     requires family { IsOfFamily family.now.shape family.now.points
         (A.actor access.old).facts.book }
     requires pinned { IsPinned g (A.actor access.old) }
-    ensures { ReadsOf g result (A.actor access.old) (A.actor access.new) }
+    ensures reads { ReadsAny g result (A.actor access.old) (A.actor access.new) }
+    ensures hands { HandsOn (A.actor access.old).facts result
+        (T.taken taker.old) (T.taken taker.new) }
 {
-    match read_stripes(alloc, access, family, g) {
-        Ok(bytes) => ReadOutcome::Bytes {
+    match read_stripes(alloc, access, family, cache, taker, g) {
+        Ok(()) => IntoOutcome::Bytes {
             g,
-            bytes,
+            length: access.book().length(),
             from: access.book().chunks(),
         },
         Err(outcome) => outcome,
@@ -126,26 +173,46 @@ fn read_generation<A: Fetch>(alloc: Global, access: &mut A, family: &Family, g: 
 }
 
 /// Reads the file, through the generation that is pinned in the Hold slot, or else through the
-/// published one, which the Work slot pins meanwhile.
+/// published one, which the Work slot pins meanwhile. The bytes are handed on stripe by stripe,
+/// each once it is had, out of the chunks that the store keeps.
 ///
 /// Each chunk is asked for in its data and then in its copies, until it is had. Of a stripe of
 /// which chunks are missing, parities are asked for until as many are had.
+pub fn read_into<A: Fetch, T: Taker>(
+    alloc: Global,
+    access: &mut A,
+    family: &Family,
+    cache: &mut PlanCache,
+    taker: &mut T,
+) -> IntoOutcome
+    requires free { MayPin Work (A.actor access.old) }
+    requires family { IsOfFamily family.now.shape family.now.points
+        (A.actor access.old).facts.book }
+    ensures { ReadsInto result (T.taken taker.old) (T.taken taker.new)
+        (A.actor access.old) (A.actor access.new) }
+{
+    if let Some(g) = access.pinned(Slot::Hold) {
+        return read_generation(alloc, access, family, cache, taker, g);
+    }
+    match access.pin(Slot::Work) {
+        Pinned::At(g) => {
+            let outcome = read_generation(alloc, access, family, cache, taker, g);
+            access.unpin(Slot::Work);
+            outcome
+        }
+        Pinned::Absent => IntoOutcome::Absent,
+        Pinned::Removed => IntoOutcome::Removed,
+    }
+}
+
+/// Reads the file like `read_into`, and gives its bytes. It keeps no plans.
 pub fn read<A: Fetch>(alloc: Global, access: &mut A, family: &Family) -> ReadOutcome
     requires free { MayPin Work (A.actor access.old) }
     requires family { IsOfFamily family.now.shape family.now.points
         (A.actor access.old).facts.book }
     ensures { Reads result (A.actor access.old) (A.actor access.new) }
 {
-    if let Some(g) = access.pinned(Slot::Hold) {
-        return read_generation(alloc, access, family, g);
-    }
-    match access.pin(Slot::Work) {
-        Pinned::At(g) => {
-            let outcome = read_generation(alloc, access, family, g);
-            access.unpin(Slot::Work);
-            outcome
-        }
-        Pinned::Absent => ReadOutcome::Absent,
-        Pinned::Removed => ReadOutcome::Removed,
-    }
+    let mut bytes = Vec::new(alloc);
+    let outcome = read_into(alloc, access, family, &mut PlanCache::none(), &mut bytes);
+    outcome.with_bytes(bytes)
 }

@@ -1,10 +1,13 @@
 //! What a short asking comes to.
-ghost use Rattle.std.specs.Prelude.{◌≡◌, ◌<◌, ◌≤◌, [], length, IfOk};
+ghost use Rattle.std.specs.Prelude.{◌≡◌, ℕ, ◌<◌, ◌≤◌, [], length, IfOk};
+ghost use Rattle.std.specs.declared.alloc.Global.{Global};
+ghost use Rattle.std.specs.declared.vec.Vec.{Vec};
 ghost use Rattle.mf_read.specs.Asking.{lost_in, away_in};
 ghost use Rattle.mf_read.specs.Groups.{asks_in};
 ghost use Rattle.mf_read.specs.Steps.{IsShortOf, first_of, lost_name, away_name};
+ghost use Rattle.mf_read.specs.Taking.{with_bytes};
 
-use crate::outcome::{LostNames, ReadOutcome};
+use crate::outcome::{IntoOutcome, LostNames};
 use mf_kernel::Memory;
 use mf_vault::{Answer, Entry, Name, Op};
 use std::alloc::Global;
@@ -65,21 +68,22 @@ fn first_away(entries: &[Entry]) -> Option<(Name, u32)>
 
 // What the short asking of stripe j with these entries comes to. The generation bears `most` lost
 // names.
-pub(crate) fn short(alloc: Global, most: u32, g: u32, j: u32, entries: &[Entry]) -> ReadOutcome
+pub(crate) fn short(alloc: Global, most: u32, g: u32, j: u32, entries: &[Entry]) -> IntoOutcome
     requires { away_in (asks_in entries.now) ≡ [] → most < length (lost_in (asks_in entries.now)) }
-    ensures { IsShortOf most g j (asks_in entries.now) result }
+    ensures { (bytes : Vec ℕ Global)
+        → IsShortOf most g j (asks_in entries.now) (with_bytes result bytes) }
 {
     let Ok(lost) = lost_names(alloc, entries) else {
-        return ReadOutcome::Memory;
+        return IntoOutcome::Memory;
     };
     let few = lost.as_slice().len() <= most as usize;
     match first_away(entries) {
-        Some((name, server)) if few => ReadOutcome::Unreachable {
+        Some((name, server)) if few => IntoOutcome::Unreachable {
             g,
             stripe: j,
             name,
             server,
         },
-        _ => ReadOutcome::DataLost { g, stripe: j, lost },
+        _ => IntoOutcome::DataLost { g, stripe: j, lost },
     }
 }

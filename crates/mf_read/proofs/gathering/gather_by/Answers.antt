@@ -39,16 +39,16 @@ slice_bounds-points-end g c =
 pub returns-clause-gathers : goal.returns-clause-gathers
 returns-clause-gathers g c =
     let old = c.args.asker.now in
-    let new = c.gather.new.pieces in
+    let new = c.gather_kept.new.pieces in
     let a = g.A.Access.actor old.access.now in
-    let stays = c.gather.ensures.stays.1 in
+    let stays = c.gather_kept.ensures.stays.1 in
     let parities = ap (λ (s : Stage). s.parities) c.stage-stage.ensures in
     gathers_by old.g old.j new.g new.j g.K.Begun.start a
-    (g.A.Access.actor new.access.now) new.stopped c.gather.result c.pieces-count.result
+    (g.A.Access.actor new.access.now) new.stopped c.gather_kept.result c.pieces-count.result
     (length (take c.stage-stage.result.parities c.points.result.now))
     c.requires.start (ap (λ (t : ℕ × ℕ × ℕ). t.1) stays) (ap (λ (t : ℕ × ℕ × ℕ). t.2) stays)
     (c.pieces-count.ensures.value ∙ ap (λ (b : BookFacts). pieces_of b old.g old.j) c.book.ensures)
     (points_taken g.K.Begun.start a c.args.family.now old.g c.stage-stage.result.parities c.points.result.now
     c.requires.start
     old.reader.stage c.requires.family c.points.ensures.kept parities c.points.ensures.value ∙ parities)
-    c.gather.ensures.answer c.gather.ensures.asked new.since
+    c.gather_kept.ensures.answer c.gather_kept.ensures.asked new.since

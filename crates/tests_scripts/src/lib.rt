@@ -2,12 +2,15 @@
 //!
 //! *Only tested.* Scripts that are printed again, up to the limits; the texts of seeds' scripts;
 //! each kind of fault with its line; reports of outcomes that no script brings out for sure; each
-//! status, with ends that fail; clients beside each other, in orders that a turnstile forces, and
-//! that it is told of each client and of each command's number.
+//! status, with ends that fail, and for one script at each call in turn; clients beside each other,
+//! in orders that a turnstile forces, and that it is told of each client and of each command's
+//! number.
 //!
 //! *Neither.* Which steps of two clients fall between which.
 #![tactic(auto)]
 
+#[cfg(test)]
+mod ends;
 #[cfg(test)]
 mod faults;
 #[cfg(test)]

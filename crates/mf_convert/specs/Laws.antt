@@ -1,8 +1,13 @@
 -- What follows of a create, a convert and a remove.
-use Rattle.std.specs.Prelude.{◌≡◌, ◌≢◌, ℕ, List, ◌++◌, Option, Some}
+use Rattle.std.specs.Prelude.{◌≡◌, ◌≢◌, ℕ, List, [], ◌∷◌, ◌++◌, Option, Some}
 use Rattle.mf_machine.specs.Worlds.{World}
+use Rattle.mf_places.specs.declared.Name.{Name}
+use Rattle.mf_places.specs.declared.Name.TheVariants as name
 use Rattle.mf_vault.specs.declared.answers.Entry.{Entry}
-use Rattle.mf_vault.specs.Actor.{Actor}
+use Rattle.mf_vault.specs.declared.answers.Entry.TheVariants as entry
+use Rattle.mf_vault.specs.declared.answers.Op.TheVariants as op
+use Rattle.mf_vault.specs.Actor.{Actor, Call}
+use Rattle.mf_vault.specs.Actor as call
 use Rattle.mf_vault.specs.Counting.{io_of}
 use Rattle.mf_convert.specs.declared.change.Change.{Change}
 use Rattle.mf_convert.specs.declared.change.Change.TheVariants as change
@@ -25,8 +30,35 @@ abbrev pub ConvertsOnce : Type 0
 ConvertsOnce = (a b c : Actor) (w : World) (upto : ℕ) (stop : Option ℕ) (o p : Change) → a.whole ≡ Some w
     → Converts upto stop o a b → Converts upto stop p a c → o ≢ change.Memory → p ≢ change.Memory → (o ≡ p) × (b ≡ c)
 
--- A convert adds entries to the ledger in which no data and no copy is read.
+-- The name is that of a parity.
+abbrev pub IsParity : Name → Type 0
+IsParity (name.Data i) = ⊥
+IsParity (name.Copy c i) = ⊥
+IsParity (name.Parity width j p) = Unit {0}
+
+-- The call is no get of data or of a copy, whatever it is answered.
+abbrev pub GetsNoData : Call → Type 0
+GetsNoData (call.get x o) = IsParity x
+GetsNoData c = Unit {0}
+
+-- So it is with each of these calls.
+abbrev pub AllGetNoData : List Call → Type 0
+AllGetNoData [] = Unit {0}
+AllGetNoData (c ∷ calls) = GetsNoData c × AllGetNoData calls
+
+-- The entry is of no get of data or of a copy, whatever it was answered.
+abbrev pub TellsNoData : Entry → Type 0
+TellsNoData (entry.Chunk op.Get x a) = IsParity x
+TellsNoData e = Unit {0}
+
+-- So it is with each of these entries.
+abbrev pub AllTellNoData : List Entry → Type 0
+AllTellNoData [] = Unit {0}
+AllTellNoData (e ∷ entries) = TellsNoData e × AllTellNoData entries
+
+-- A convert makes no get of data or of a copy, whatever the answer, and its entries tell of none; so its counts of both
+-- are zero.
 abbrev pub ReadsNoData : Type 0
-ReadsNoData = (a b : Actor) (upto : ℕ) (stop : Option ℕ) (o : Change) → Converts upto stop o a b
-    → (entries : List Entry) × (b.entries ≡ a.entries ++ entries) × ((io_of entries).pieces ≡ 0)
-    × ((io_of entries).copies ≡ 0)
+ReadsNoData = (a b : Actor) (upto : ℕ) (stop : Option ℕ) (o : Change) → (x : Converts upto stop o a b)
+    → AllGetNoData x.calls × ((entries : List Entry) × (b.entries ≡ a.entries ++ entries) × AllTellNoData entries
+    × ((io_of entries).pieces ≡ 0) × ((io_of entries).copies ≡ 0))

@@ -18,7 +18,7 @@ pub fn convert_has_one_result()
     ensures { ConvertsOnce }
 {}
 
-/// A convert reads no data and no copy.
+/// A convert makes no get of data or of a copy, whatever the answer.
 pub fn no_data_is_read()
     ensures { ReadsNoData }
 {}

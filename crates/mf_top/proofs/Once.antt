@@ -30,6 +30,8 @@ use Rattle.mf_top.specs.Answers.{task_words, seed_words, AsksNoSeed, AsksNothing
 use Rattle.mf_top.specs.Answers.{reported, lacked, accepted, refused, summed, sum_lacked, no_words}
 use Rattle.mf_top.specs.Ends.{Call, Ends}
 use Rattle.mf_top.specs.Laws.{RefusesAlike, IsPlain, OneAnswer, NothingFailed, Completes}
+use Rattle.mf_top.specs.Statuses.{IsNoScript, StatusesTell}
+use Rattle.mf_top.specs.Writes.{Output, WritesWhole, WritesNothing}
 use Rattle.mf_top.specs.declared.Task.{Task}
 use Rattle.mf_top.specs.declared.Task.TheVariants.{Run, Check}
 use Rattle.mf_top.proofs.Summing.{no_task}
@@ -364,3 +366,103 @@ seed_ends_well n c ended.SinkFault small h asks held = absurd (held h.writes.fai
 
 pub ends_well : Completes
 ends_well = record { run = run_ends_well; check = check_ends_well; seed = seed_ends_well }
+
+-- ---- the statuses, both ways
+
+-- an answer to the words of a task, where the text is no script, has status 1
+of_no_script : (task : Task) (words : List (List ℕ)) (text : List ℕ) (m : ℕ) (x : List ℕ) → words ≡ task_words task
+    → IsNoScript text → Shown words text m x → m ≡ 1
+of_no_script task words text m x e none (by_run a) = absurd (none a.script a.run.script)
+of_no_script task words text m x e none (by_check a) = absurd (none a.script a.read)
+of_no_script task words text m x e none (by_fault a) = a.status
+of_no_script task words text m x e none (by_seed a) = absurd (no_task a.seed task (sym a.asks ∙ e))
+of_no_script task words text m x e none (by_words a) = absurd (a.asks.0 task e)
+
+-- one of status 1 is to the words of a task, and the text is no script
+of_one : (words : List (List ℕ)) (text x : List ℕ) → Shown words text 1 x
+    → ((task : Task) × (words ≡ task_words task)) × IsNoScript text
+of_one words text x (by_run a) = absurd (elim a.status [ inl h ↦ let told = h.0 in cc | inr h ↦ cc ])
+of_one words text x (by_check a) = absurd (let told = a.status in cc)
+of_one words text x (by_fault a) = ((a.task, a.asks), λ s is. no_script text s a.fault is a.refused)
+of_one words text x (by_seed a) = absurd (elim a.status [ inl h ↦ cc | inr h ↦ cc ])
+of_one words text x (by_words a) = absurd (let told = a.status in cc)
+
+-- one to words that ask for nothing has status 2
+of_words : (words : List (List ℕ)) (text : List ℕ) (m : ℕ) (x : List ℕ) → AsksNothing words → Shown words text m x
+    → m ≡ 2
+of_words words text m x none (by_run a) = absurd (none.0 (Run a.json) a.asks)
+of_words words text m x none (by_check a) = absurd (none.0 Check a.asks)
+of_words words text m x none (by_fault a) = absurd (none.0 a.task a.asks)
+of_words words text m x none (by_seed a) = absurd (none.1 a.seed a.small a.asks)
+of_words words text m x none (by_words a) = a.status
+
+-- and one of status 2 is to such words
+of_two : (words : List (List ℕ)) (text x : List ℕ) → Shown words text 2 x → AsksNothing words
+of_two words text x (by_run a) = absurd (elim a.status [ inl h ↦ let told = h.0 in cc | inr h ↦ cc ])
+of_two words text x (by_check a) = absurd (let told = a.status in cc)
+of_two words text x (by_fault a) = absurd (let told = a.status in cc)
+of_two words text x (by_seed a) = absurd (elim a.status [ inl h ↦ cc | inr h ↦ cc ])
+of_two words text x (by_words a) = a.asks
+
+refused_ends : (task : Task) (c : Call) (status : Status) (text : List ℕ) → Ends c status
+    → c.words ≡ task_words task → c.left ≡ Some text → IsNoScript text → NothingFailed c
+    → (status ≡ ended.Refused) ⊎ (status ≡ ended.Memory)
+refused_ends task c ended.Done text h asks left none held =
+    let same : h.text ≡ text = subst (λ l. IfSome l (λ bytes. h.text ≡ bytes)) left h.input in
+    let m = of_no_script task c.words h.text 0 h.writes.bytes asks (subst IsNoScript (sym same) none)
+    (shown c.words h.text 0 h.writes.bytes h.writes.answer) in absurd (let e : 0 ≡ 1 = m in cc)
+refused_ends task c ended.Refused text h asks left none held = inl refl
+refused_ends task c ended.Memory text h asks left none held = inr refl
+refused_ends task c ended.Words text h asks left none held =
+    absurd (not_words task c.words h.text h.writes.bytes asks
+    (shown c.words h.text 2 h.writes.bytes h.writes.answer))
+refused_ends task c ended.SourceFault text h asks left none held = absurd (held.reads h.1)
+refused_ends task c ended.SinkFault text h asks left none held = absurd (held.writes h.writes.failed)
+
+words_end : (c : Call) (status : Status) → Ends c status → AsksNothing c.words
+    → (HasRisen c.output.faults c.output.faults_now → ⊥) → (status ≡ ended.Words) ⊎ (status ≡ ended.Memory)
+words_end c ended.Done h none held = let m = of_words c.words h.text 0 h.writes.bytes none
+    (shown c.words h.text 0 h.writes.bytes h.writes.answer) in absurd (let e : 0 ≡ 2 = m in cc)
+words_end c ended.Refused h none held = let m = of_words c.words h.text 1 h.writes.bytes none
+    (shown c.words h.text 1 h.writes.bytes h.writes.answer) in absurd (let e : 1 ≡ 2 = m in cc)
+words_end c ended.Words h none held = inl refl
+words_end c ended.Memory h none held = inr refl
+words_end c ended.SourceFault h none held = absurd (none.0 h.0.words.0 h.0.words.1)
+words_end c ended.SinkFault h none held = absurd (held h.writes.failed)
+
+read_failed : (c : Call) (status : Status) → Ends c status → c.faults_now ≢ c.faults → status ≡ ended.SourceFault
+read_failed c ended.Done h ne = absurd (ne h.reads)
+read_failed c ended.Refused h ne = absurd (ne h.reads)
+read_failed c ended.Words h ne = absurd (ne h.reads)
+read_failed c ended.SourceFault h ne = refl
+read_failed c ended.SinkFault h ne = absurd (ne h.reads)
+read_failed c ended.Memory (inl h) ne = absurd (ne h.reads)
+read_failed c ended.Memory (inr h) ne = absurd (ne h.1)
+
+lacks_held : (o : Output) (words : List (List ℕ)) (text : List ℕ) → WritesNothing o ⊎ WritesWhole o words text 5
+    → o.faults_now ≡ o.faults
+lacks_held o words text (inl w) = w.held
+lacks_held o words text (inr w) = w.held
+
+write_failed : (c : Call) (status : Status) → Ends c status → c.output.faults_now ≢ c.output.faults
+    → status ≡ ended.SinkFault
+write_failed c ended.Done h ne = absurd (ne h.writes.held)
+write_failed c ended.Refused h ne = absurd (ne h.writes.held)
+write_failed c ended.Words h ne = absurd (ne h.writes.held)
+write_failed c ended.SourceFault h ne = absurd (ne h.0.writes.held)
+write_failed c ended.SinkFault h ne = refl
+write_failed c ended.Memory (inl h) ne = absurd (ne (lacks_held c.output c.words h.text h.writes))
+write_failed c ended.Memory (inr h) ne = absurd (ne h.0.writes.held)
+
+pub statuses_tell : StatusesTell
+statuses_tell = record {
+  refused = refused_ends;
+  refused_so = λ c h. let t = of_one c.words h.text h.writes.bytes
+      (shown c.words h.text 1 h.writes.bytes h.writes.answer) in (t.0, (h.text, h.input, t.1));
+  words = words_end;
+  words_so = λ c h. of_two c.words h.text h.writes.bytes (shown c.words h.text 2 h.writes.bytes h.writes.answer);
+  read_failed = read_failed;
+  read_failed_so = λ c h. h.1;
+  write_failed = write_failed;
+  write_failed_so = λ c h. h.writes.failed;
+}

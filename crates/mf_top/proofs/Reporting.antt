@@ -91,8 +91,8 @@ gains_then a b c x y =
 -- of a conversion
 gains_convert : (upto : ℕ) (stop : Option ℕ) (o : Change) (a b : Actor) → Converts upto stop o a b → Gains a b
 gains_convert upto stop o a b x =
-    let r = reads_no_data a b upto stop o x in
-    record { entries = r.0; is = r.1; none = record { pieces = r.2; copies = r.3 } }
+    let r = (reads_no_data a b upto stop o x).1 in
+    record { entries = r.0; is = r.1; none = record { pieces = r.3; copies = r.4 } }
 
 converted_gains : (stop : Option ℕ) (o : Outcome) (a b : Actor) → IsConverted stop o a b → Gains a b
 converted_gains stop (outcome.Change change) a b x = gains_convert _ stop change a b x

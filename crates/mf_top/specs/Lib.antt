@@ -4,5 +4,6 @@ pub mod Answers
 pub mod Writes
 pub mod Ends
 pub mod Laws
+pub mod Statuses
 -- Words of private functions, which no promise has.
 pub mod Between

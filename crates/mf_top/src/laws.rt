@@ -2,6 +2,7 @@
 
 ghost use Rattle.mf_top.specs.Laws.{OneAnswer, Completes, ReadsAreServed};
 ghost use Rattle.mf_top.specs.Laws.{DigestsAreOfCells, ConversionsReadNoData};
+ghost use Rattle.mf_top.specs.Statuses.{StatusesTell};
 
 /// Words that ask for no seed, and a text, have one status and one answer, where no command lacks
 /// memory and no phase has several clients.
@@ -13,6 +14,13 @@ pub fn one_answer()
 /// 5. Where no write failed, a run of a seed's script ends with 0 or 5.
 pub fn ends_well()
     ensures { Completes }
+{}
+
+/// The statuses 1 to 4, both ways. A text that is no script ends with 1 or 5, and only such a text
+/// with 1; other words with 2 or 5, and only such words with 2; a read that failed with 3, and only
+/// such a call; a write that failed with 4, and only such a call.
+pub fn statuses_tell()
+    ensures { StatusesTell }
 {}
 
 /// A command that reads and names no server answers the bytes, or that the file isn't there, or

@@ -39,6 +39,7 @@ mod writing;
 use answers::{answer_to_check, answer_to_run};
 pub use laws::{
     conversions_read_no_data, digests_are_of_cells, ends_well, one_answer, reads_are_served,
+    statuses_tell,
 };
 use mf_client::Turnstile;
 use mf_io::{ReadAll, Sink, Source, read_all};

@@ -1,16 +1,11 @@
-//! Tests of the codes, families, books, texts, sources and policies, and no code.
+//! Tests of the codes, and no code.
 //!
 //! *Only tested.* The field, matrices, kernels, encodings, merges, decodings and gatherings, by hand
-//! and beside plain loops; shapes and families, at the limits too; names, books and cut files;
-//! texts, sources and sinks; due stages.
+//! and beside plain loops; files cut and joined.
 #![tactic(auto)]
 
 #[cfg(test)]
-mod books;
-#[cfg(test)]
 mod decodings;
-#[cfg(test)]
-mod families;
 #[cfg(test)]
 mod fields;
 #[cfg(test)]
@@ -24,16 +19,6 @@ mod matrices;
 #[cfg(test)]
 mod merges;
 #[cfg(test)]
-mod names;
-#[cfg(test)]
 mod plain;
 #[cfg(test)]
-mod policies;
-#[cfg(test)]
-mod shapes;
-#[cfg(test)]
-mod sources;
-#[cfg(test)]
 mod stores;
-#[cfg(test)]
-mod texts;

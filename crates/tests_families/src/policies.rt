@@ -1,7 +1,7 @@
 //! The due stages of files, and the files that a sweep converts.
 ghost use Rattle.std.specs.Prelude.{◌≡◌};
 
-use crate::plain::assert_no_row;
+use crate::rows::assert_no_row;
 use mf_policy::{Memory, Policy, due, sweep_list};
 use std::alloc::Global;
 use std::test::Fail;

@@ -1,7 +1,7 @@
 //! Sources and sinks in memory and over std: pieces, and calls that fail.
 ghost use Rattle.std.specs.Prelude.{◌<◌};
 
-use crate::plain::assert_no_row;
+use crate::rows::assert_no_row;
 use mf_io::{MemorySink, MemorySource, ReadAll, StdSource, read_all, write_all};
 use std::alloc::{AllocError, Global};
 use std::test::Fail;

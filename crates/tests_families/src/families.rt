@@ -1,5 +1,5 @@
 //! Families and their faults, at the limits too.
-use crate::plain::assert_no_row;
+use crate::rows::assert_no_row;
 use mf_check::{FamilyFault, check};
 use mf_shape::{Shape, Stage};
 use std::alloc::Global;

@@ -1,7 +1,7 @@
 //! Chains of stages: each fault on both sides of its limit, and the numbers of a chain.
 ghost use Rattle.std.specs.Prelude.{◌≡◌, length};
 
-use crate::plain::assert_no_row;
+use crate::rows::assert_no_row;
 use mf_shape::{Shape, ShapeFault, Stage};
 use std::alloc::{AllocError, Global};
 use std::test::Fail;

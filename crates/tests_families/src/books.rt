@@ -1,6 +1,6 @@
 //! The book of a file of 1,024 chunks, and of the last file number: its names in order, and where
 //! they lie.
-use crate::plain::assert_no_row;
+use crate::rows::assert_no_row;
 use mf_places::Name::{Copy, Data, Parity};
 use mf_places::{Book, Memory, Name};
 use mf_shape::{Shape, Stage};

@@ -1,7 +1,7 @@
 //! Lines, words, numbers and bytes in texts.
 ghost use Rattle.std.specs.Prelude.{◌≤◌, length};
 
-use crate::plain::assert_no_row;
+use crate::rows::assert_no_row;
 use mf_text::{
     HexFault, Memory, Span, SplitFault, decimal, hex_bytes, push_decimal, push_hex, split_lines,
     split_words,

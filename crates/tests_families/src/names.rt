@@ -1,7 +1,7 @@
 //! The names of small files, in order, with their servers, stripes and pieces; sets of servers.
 ghost use Rattle.std.specs.Prelude.{◌<◌, ◌≤◌};
 
-use crate::plain::assert_no_row;
+use crate::rows::assert_no_row;
 use mf_places::Name::{Copy, Data, Parity};
 use mf_places::{Book, Losses, Memory, Name, Servers};
 use mf_shape::{Shape, Stage};

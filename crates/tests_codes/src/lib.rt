@@ -13,6 +13,8 @@ mod files;
 #[cfg(test)]
 mod gatherings;
 #[cfg(test)]
+mod inverses;
+#[cfg(test)]
 mod kernels;
 #[cfg(test)]
 mod matrices;

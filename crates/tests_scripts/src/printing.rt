@@ -76,6 +76,10 @@ const FILES: &[u8] = b"\
 const BIG: &[u8] =
     b"morph 1\nservers 6\nchunk 65536\npoints 1 2\nstage 2 2 1\nstage 4 2 0\nfile a text ";
 
+// The same, with the bytes in hexadecimal digits.
+const BIG_HEX: &[u8] =
+    b"morph 1\nservers 6\nchunk 65536\npoints 1 2\nstage 2 2 1\nstage 4 2 0\nfile a hex ";
+
 // The lines up to the first client of a store with one file.
 const CLIENT: &[u8] = b"\
     morph 1\nservers 6\nchunk 1\npoints 1 2\nstage 2 2 1\nstage 4 2 0\nfile a text abcd\n\
@@ -85,7 +89,13 @@ const CLIENT: &[u8] = b"\
 struct Long(&'static [u8], &'static [u8], usize, &'static [u8]);
 
 // Texts at the limits, which are printed as they are.
-static LONGEST: [Long; 6] = [
+static LONGEST: [Long; 7] = [
+    Long(
+        BIG_HEX,
+        b"61",
+        524_233,
+        b"\nphase\nclient\ncreate a\nread a\nend",
+    ),
     Long(
         BIG,
         b"a",

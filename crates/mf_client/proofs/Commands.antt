@@ -40,7 +40,7 @@ use Rattle.mf_client.specs.Runs.{gained, io_gained, IsSmall, IsDone, RunsFrom}
 use Rattle.mf_client.specs.Steps.{Comes, IsRunning, IsLine, Finds, AreOfFamily}
 use Rattle.mf_client.proofs.Known.{command_knows, has_policy, IsPolicied}
 use Rattle.mf_client.proofs.Listing.{lose_listed}
-use Rattle.mf_client.proofs.Leaving.{Stays, quiet_all, AreQuiet}
+use Rattle.mf_vault.proofs.Leaving.{Stays, quiet_all, AreQuiet}
 use Rattle.mf_client.proofs.Numbered.{io_set, io_cut, plus_none, facts_cut, idle_cut, IsFiled, filed, filed_cut}
 use Rattle.mf_client.proofs.Visiting.{visits_pass}
 use Rattle.mf_client.proofs.Went.{comes_went, gained_is}

@@ -1,6 +1,3 @@
-pub mod Leaving
-pub mod Parting
-pub mod Few
 pub mod Went
 pub mod Known
 pub mod Halves

@@ -24,7 +24,7 @@ use Rattle.mf_vault.proofs.Held.{server_is}
 use Rattle.mf_client.specs.Acts.{names_on, loses, LosesIn, LosesAll, lists_on}
 use Rattle.mf_client.specs.Clients.{facts_in}
 use Rattle.mf_client.specs.Steps.{IsLine, AreLosable, AllLosable, HaveRoom, rows}
-use Rattle.mf_client.proofs.Few.{passing_few}
+use Rattle.mf_convert.proofs.Few.{passing_few}
 
 -- ---- one file
 
@@ -79,7 +79,7 @@ losable line s a kept is = (
       let had = All-sublist a.facts.book (is_on a.facts.book s) (names_on a.facts s) refl k d low in
       let on = eqb-true (server_of a.facts.book x) s (passes (is_on a.facts.book s) (all_names a.facts.book) k d low) in
       (had, subst (λ n. 0 < listed line n (lines a.facts.losses)) (sym (server_is a.facts x had ∙ on)) is)),
-  passing_few a.facts.book (is_on a.facts.book s) kept.file.layout,
+  (let few = passing_few a.facts.book (is_on a.facts.book s) kept.file.layout in omega arith),
 )
 
 pub losable_all : (line s : ℕ) (actors : List Actor) → All IsKept actors → All (IsLine line s) (facts_in actors)

@@ -19,7 +19,7 @@ use Rattle.mf_convert.proofs.Fewer.{entries_low}
 use Rattle.mf_client.specs.declared.done.Part.{Part}
 use Rattle.mf_client.specs.Sweeps.{ConvertsInTurn, AreAll, is_converted, is_part, parts_of}
 use Rattle.mf_client.specs.Steps.{AreConverted, Converting, Visited}
-use Rattle.mf_client.proofs.Parting.{converts_leaves}
+use Rattle.mf_convert.proofs.Leaving.{converts_leaves}
 
 -- one conversion more
 turn_more : (upto : ℕ) (cs : List Change) (c : Change) (a b d : Actor) → ConvertsInTurn upto cs a b

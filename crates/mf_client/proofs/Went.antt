@@ -26,12 +26,15 @@ use Rattle.mf_client.specs.Acts.{IsHeld, IsReleased, Pins}
 use Rattle.mf_client.specs.Laws.{IsWhole}
 use Rattle.mf_client.specs.Runs.{gained}
 use Rattle.mf_client.specs.Steps.{Comes}
-use Rattle.mf_client.proofs.Leaving.{creates_leaves, removes_leaves, reads_leaves}
-use Rattle.mf_client.proofs.Parting.{repairs_leaves, reclaims_leaves, converts_leaves}
+use Rattle.mf_convert.proofs.Leaving.{creates_leaves, removes_leaves, converts_leaves}
+use Rattle.mf_read.proofs.Leaving.{reads_leaves}
+use Rattle.mf_repair.proofs.Leaving.{repairs_leaves}
+use Rattle.mf_reclaim.proofs.Leaving.{reclaims_leaves}
 use Rattle.mf_repair.proofs.Bounded.{entries_few as repairs_few}
 use Rattle.mf_reclaim.proofs.Few.{entries_few as reclaims_few}
 use Rattle.mf_convert.proofs.Fewer.{entries_few as converts_few}
-use Rattle.mf_client.proofs.Few.{creates_few, removes_few, reads_few}
+use Rattle.mf_convert.proofs.Begun.{creates_few, removes_few}
+use Rattle.mf_read.proofs.Few.{reads_few}
 
 -- few calls led from one actor to the other, and it is idle
 pub record Went (a b : Actor) : Type 0 where

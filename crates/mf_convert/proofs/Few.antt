@@ -12,6 +12,7 @@ use Rattle.mf_shape.specs.declared.Stage.{Stage}
 use Rattle.mf_shape.specs.Stages.{copies_at, max_width}
 use Rattle.mf_shape.specs.Chain.{IsChain}
 use Rattle.mf_shape.proofs.Widths.{max_width-le-limit}
+use Rattle.mf_places.specs.declared.Name.{Name}
 use Rattle.mf_places.specs.Facts.{BookFacts, IsBook, chunks_of}
 use Rattle.mf_places.specs.Names.{count_of, all_names, max_parities}
 use Rattle.mf_places.specs.Numbers.{parities_in, parities_below}
@@ -83,6 +84,9 @@ count_few b book =
     let cs = mul-le (copies_at b.shape.stages 0) (chunks_of b) 2 1024 copies chunks in
     omega arith
 
-pub names_few : (b : BookFacts) (t : ℕ) → IsBook b → length (filter (holds b t) (all_names b)) ≤ 30000
+pub passing_few : (b : BookFacts) (p : Name → Bool) → IsBook b → length (filter p (all_names b)) ≤ 30000
 unfolding count_of
-names_few b t book = let few = filter_few (holds b t) (all_names b) in let all = count_few b book in omega arith
+passing_few b p book = let few = filter_few p (all_names b) in let all = count_few b book in omega arith
+
+pub names_few : (b : BookFacts) (t : ℕ) → IsBook b → length (filter (holds b t) (all_names b)) ≤ 30000
+names_few b t book = passing_few b (holds b t) book

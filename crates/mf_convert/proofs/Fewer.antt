@@ -51,7 +51,7 @@ gets_long : (f : Facts) (xs : List Name) → length (gets f xs) ≡ length xs
 gets_long f [] = refl
 gets_long f (x ∷ xs) = ap suc (gets_long f xs)
 
-probes_few : (xs : List Name) (ss : List State) → length (probes xs ss) ≤ length xs
+pub probes_few : (xs : List Name) (ss : List State) → length (probes xs ss) ≤ length xs
 probes_few [] ss = omega arith
 probes_few (x ∷ xs) [] = omega arith
 probes_few (x ∷ xs) (s ∷ ss) = let r = probes_few xs ss in omega arith

@@ -7,6 +7,7 @@ pub mod Made
 pub mod Once
 pub mod Courses
 pub mod Steady
+pub mod Leaving
 pub mod Next
 pub mod Marks
 pub mod Rows
@@ -17,6 +18,7 @@ pub mod Merged
 pub mod Making
 pub mod Completing
 pub mod Fewer
+pub mod Begun
 pub mod Converted
 pub mod Dataless
 pub mod OneEnd

@@ -8,7 +8,7 @@ ghost use Rattle.mf_vault.specs.Actor.{Actor};
 ghost use Rattle.mf_vault.specs.Facts.{Facts, number, cell_of};
 ghost use Rattle.mf_vault.specs.Licence.{Does, did_all};
 ghost use Rattle.mf_convert.specs.Cells.{IsFirst};
-ghost use Rattle.mf_vault.specs.Conditions.{IsIdle, IsOfFamily};
+ghost use Rattle.mf_vault.specs.Conditions.{IsIdle, IsOfFamily, Leaves};
 ghost use Rattle.mf_convert.specs.Create.{Creates, probes, bring, brings, first_names};
 ghost use Rattle.mf_convert.specs.Building.{IsFirstBuilder, IsMarked, AreMarked, AreSettled};
 ghost use Rattle.mf_convert.specs.Building.{Builds};
@@ -30,6 +30,7 @@ pub fn create<A: Access>(alloc: Global, access: &mut A, family: &Family, bytes: 
     requires bytes { bytes.now ≡ (A.actor access.old).facts.bytes }
     requires reached { (A.actor access.old).cut ≡ no_servers }
     ensures licence { Creates result (A.actor access.old) (A.actor access.new) }
+    ensures leaves { Leaves (A.actor access.old) (A.actor access.new) }
 {
     if !access.begin() {
         return Change::Busy;

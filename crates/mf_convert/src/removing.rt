@@ -1,5 +1,5 @@
 //! Removing a file.
-ghost use Rattle.mf_vault.specs.Conditions.{IsIdle};
+ghost use Rattle.mf_vault.specs.Conditions.{IsIdle, Leaves};
 ghost use Rattle.mf_convert.specs.Remove.{Removes};
 
 use crate::change::Change;
@@ -11,6 +11,7 @@ use mf_vault::{Access, Pinned, Slot};
 pub fn remove<A: Access>(access: &mut A) -> Change
     requires idle { IsIdle (A.actor access.old) }
     ensures licence { Removes result (A.actor access.old) (A.actor access.new) }
+    ensures leaves { Leaves (A.actor access.old) (A.actor access.new) }
 {
     if !access.begin() {
         return Change::Busy;

@@ -25,7 +25,9 @@ use Rattle.mf_vault.specs.Facts.{Facts}
 use Rattle.mf_vault.specs.Licence.{Does}
 use Rattle.mf_vault.proofs.Doing.{one, facts_stay}
 use Rattle.mf_vault.proofs.Entering.{tried_right}
-use Rattle.mf_client.proofs.Leaving.{quiet_all, creates_leaves, removes_leaves, reads_leaves}
+use Rattle.mf_vault.proofs.Leaving.{quiet_all}
+use Rattle.mf_convert.proofs.Leaving.{creates_leaves, removes_leaves}
+use Rattle.mf_read.proofs.Leaving.{reads_leaves}
 use Rattle.mf_shared.specs.declared.seat.Seat.{Seat}
 use Rattle.mf_shared.specs.declared.shared.Shared.{Shared}
 use Rattle.mf_shared.specs.Seats.{Begins, entering, let_go, view_of}

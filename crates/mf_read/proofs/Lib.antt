@@ -1,5 +1,7 @@
 pub mod Turns
 pub mod Asked
+pub mod Leaving
+pub mod Few
 pub mod Props
 pub mod Readers
 pub mod Told

@@ -3,4 +3,5 @@ mod Discards
 mod Learning
 pub mod Once
 pub mod Few
+pub mod Leaving
 mod Pinned

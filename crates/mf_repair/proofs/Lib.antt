@@ -7,5 +7,6 @@ mod Rising
 mod Telling
 mod Placed
 pub mod Bounded
+pub mod Leaving
 mod Mended
 pub mod OneRepair

@@ -1,5 +1,6 @@
 pub mod Doing
 pub mod Entering
+pub mod Leaving
 pub mod Held
 pub mod Counted
 pub mod Once

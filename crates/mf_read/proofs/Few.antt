@@ -1,34 +1,22 @@
--- The entries of an engine are few.
-use Rattle.std.proofs.Common.{◌≡◌, ℕ, zero, suc, ◌+◌, ◌-◌, ◌*◌, ◌^◌, ◌<◌, ◌≤◌, min, not, Bool, List, [], ◌∷◌, ◌++◌}
-use Rattle.std.proofs.Common.{length, length-append, filter, refl, sym, ap, ◌∙◌, subst, arith, append_assoc, inl, inr}
+-- The entries of a read are few.
+use Rattle.std.proofs.Common.{◌≡◌, ℕ, zero, suc, ◌+◌, ◌-◌, ◌*◌, ◌^◌, ◌<◌, ◌≤◌, min, List, [], ◌∷◌, ◌++◌}
+use Rattle.std.proofs.Common.{length, length-append, refl, sym, ap, ◌∙◌, subst, arith, append_assoc, inl, inr}
 use Rattle.std.proofs.Common.{◌⊎◌}
 use Rattle.std.proofs.lemmas.Bool.{cases_lt}
 use Rattle.std.proofs.lemmas.List.{get_or_past}
-use Rattle.std.proofs.lemmas.List.Filters.{length-filter_both}
 use Rattle.std.proofs.lemmas.List.FromFn.{length-range_with_len, length-map-range_with_len}
 use Rattle.mf_machine.specs.declared.answer.Slot.TheVariants.{Work}
-use Rattle.mf_machine.specs.declared.answer.State.{State}
-use Rattle.mf_machine.specs.declared.answer.State.TheVariants as state
 use Rattle.mf_shape.specs.Chain.{IsChain}
-use Rattle.mf_shape.specs.Stages.{no_stage, stage_at, width_at, copies_at, parities_at, max_width}
+use Rattle.mf_shape.specs.Stages.{no_stage, stage_at, width_at, copies_at, parities_at}
 use Rattle.mf_shape.specs.declared.Stage.{Stage}
-use Rattle.mf_shape.proofs.Widths.{max_width-le-limit}
 use Rattle.mf_places.specs.declared.Name.{Name}
 use Rattle.mf_places.specs.declared.Name.TheVariants as name
 use Rattle.mf_places.specs.Facts.{BookFacts, IsBook, chunks_of}
-use Rattle.mf_places.specs.Generations.{holds, pieces_of, pieces_at, parities_of_stripe}
-use Rattle.mf_places.specs.Names.{all_names, count_of}
-use Rattle.mf_places.proofs.Names.{count_of-is}
-use Rattle.mf_places.proofs.Counts.{first_in-le}
+use Rattle.mf_places.specs.Generations.{pieces_of, pieces_at, parities_of_stripe}
 use Rattle.mf_vault.specs.declared.answers.Got.TheVariants as got
 use Rattle.mf_vault.specs.Facts.{Facts}
-use Rattle.mf_vault.specs.Actor.{Actor, Call, entry_of, get, unpin, end, publish}
+use Rattle.mf_vault.specs.Actor.{Actor, Call, entry_of, get, unpin}
 use Rattle.mf_vault.specs.Licence.{entries_of}
-use Rattle.mf_convert.specs.declared.change.Change.{Change}
-use Rattle.mf_convert.specs.Create as create
-use Rattle.mf_convert.specs.Create.{IsCreate, Creates, probes, bring, brings, first_names}
-use Rattle.mf_convert.specs.Remove as remove
-use Rattle.mf_convert.specs.Remove.{IsRemove, Removes}
 use Rattle.mf_read.specs.declared.outcome.ReadOutcome.{ReadOutcome}
 use Rattle.mf_read.specs.declared.outcome.ReadOutcome.TheVariants as read
 use Rattle.mf_read.specs.Asking.{Ask, Found, here, lost, away, still, IsAsked, homes_of, AreAsked, missing, joined}
@@ -40,72 +28,9 @@ entries_append [] ys = refl
 entries_append (c ∷ xs) ys = ap (λ l. entry_of c ++ l) (entries_append xs ys)
     ∙ sym (append_assoc (entry_of c) (entries_of xs) (entries_of ys))
 
-pub both_few : (xs ys : List Call)
+both_few : (xs ys : List Call)
     → length (entries_of (xs ++ ys)) ≡ length (entries_of xs) + length (entries_of ys)
 both_few xs ys = ap length (entries_append xs ys) ∙ length-append (entries_of xs) (entries_of ys)
-
-pub count_few : (b : BookFacts) → IsBook b → count_of b ≤ 300000
-count_few b book = let wide = max_width-le-limit book.shape.chain in
-    subst (λ n. n ≤ 300000) (sym (count_of-is b)) (first_in-le book.shape.chain (chunks_of b)
-    (max_width b.shape.stages + 1)
-    book.chunks (omega arith))
-
-pub passing_few : (b : BookFacts) (p : Name → Bool) → IsBook b → length (filter p (all_names b)) ≤ 300000
-unfolding count_of
-passing_few b p book =
-    let few = count_few b book in
-    let both = length-filter_both p (λ x. not (p x)) (λ x. refl) (all_names b) in omega arith
-
--- ---- create and remove
-
-probes_few : (xs : List Name) (ss : List State) → length (entries_of (probes xs ss)) ≤ length xs
-probes_few [] ss = omega arith
-probes_few (x ∷ xs) [] = omega arith
-probes_few (x ∷ xs) (s ∷ ss) = let r = probes_few xs ss in omega arith
-
-bring_few : (x : Name) (s : State) → length (entries_of (bring x s)) ≤ 1
-bring_few x state.Unborn = omega arith
-bring_few x state.Here = omega arith
-bring_few x (state.Lost l) = omega arith
-bring_few x (state.Away s) = omega arith
-
-brings_few : (xs : List Name) (ss : List State) → length (entries_of (brings xs ss)) ≤ length xs
-brings_few [] ss = omega arith
-brings_few (x ∷ xs) [] = omega arith
-brings_few (x ∷ xs) (s ∷ ss) =
-    let r = brings_few xs ss in
-    let o = bring_few x s in
-    let e = both_few (bring x s) (brings xs ss) in omega arith
-
-create_few : {f : Facts} {o : Change} {cs : List Call} → IsBook f.book → IsCreate f o cs
-    → length (entries_of cs) ≤ 600000
-create_few book create.busy = omega arith
-create_few book (create.was_there gs g) = omega arith
-create_few book (create.was_removed gs) = omega arith
-create_few book (create.no_memory gs) = omega arith
-create_few {f = f} book (create.created gs ss long) =
-    let xs = first_names f in
-    let few = passing_few f.book (holds f.book 0) book in
-    let last = publish 1 ∷ end ∷ [] in
-    let p = probes_few xs ss in
-    let b = brings_few xs ss in
-    let d = both_few (probes xs ss) (brings xs ss ++ last) in
-    let e = both_few (brings xs ss) last in omega arith
-
-pub creates_few : {o : Change} {a b : Actor} → IsBook a.facts.book → (x : Creates o a b)
-    → length (entries_of x.calls) < 2 ^ 24
-creates_few book x = let few = create_few book x.licence in omega arith
-
-remove_few : {f : Facts} {o : Change} {cs : List Call} → IsRemove f o cs → length (entries_of cs) ≡ 0
-remove_few remove.busy = refl
-remove_few (remove.absent gs) = refl
-remove_few (remove.was_removed gs) = refl
-remove_few (remove.removed_now gs g) = refl
-
-pub removes_few : {o : Change} {a b : Actor} → (x : Removes o a b) → length (entries_of x.calls) < 2 ^ 24
-removes_few x = let few = remove_few x.licence in omega arith
-
--- ---- read
 
 -- at most as many are asked for as there are names
 asked_by : (n : ℕ) (names : List Name) (r : Found) (asks : List Ask)

@@ -38,6 +38,7 @@ use Rattle.mf_lines.specs.Lines.{is_above, numbers_in, points_in, points_form, s
 use Rattle.mf_lines.specs.Lines.{has_name, content_in, content_length, starts_high}
 use Rattle.mf_lines.specs.Lines.{command_fits, server_operand, away_words, servers_in, away_operands, file_number}
 use Rattle.mf_places.specs.declared.servers.Servers.{Servers}
+use Rattle.mf_lines.specs.Lines.{stop_words, stop_operands, convert_in}
 use Rattle.mf_lines.specs.Lines.{file_limits, file_form, file_operand, act_in, form_in, may_follow_command, may_follow}
 use Rattle.mf_lines.specs.Lines.{later_form, placed, form_at, are_thresholds, policy_form, tick_form, sweep_operand}
 use Rattle.mf_lines.specs.Names.{is_name}
@@ -170,6 +171,19 @@ sweep_few so ws u e =
     let b = bound (command_fits so) _ u a.next in
     fits_few so b.value b.is
 
+stop_few : (so : SoFar) (words : List ℕ × List ℕ) (two : ℕ × ℕ) → stop_operands so words ≡ Ok two
+    → so.commands < 1024
+stop_few so words two e =
+    let a = bound (number_in words.1) _ two e in
+    let b = bound (command_fits so) _ two a.next in
+    fits_few so b.value b.is
+
+convert_few : (so : SoFar) (ws : List (List ℕ)) (o : Option (List ℕ × List ℕ)) (read : Act)
+    → convert_in so o ws ≡ Ok read → so.commands < 1024
+convert_few so ws (Some words) read e =
+    let a = bound (stop_operands so words) _ read e in stop_few so words a.value a.is
+convert_few so ws None read e = let a = bound (away_operands so ws) _ read e in away_few so ws a.value a.is
+
 act_few : (so : SoFar) (v : Verb) (ws : List (List ℕ)) (read : Act) → act_in so v ws ≡ Ok read → so.commands < 1024
 act_few so verb.Lose ws read e =
     let a = bound (server_operand so ws) (λ server. Ok (act.Lose server)) read e in server_few so ws a.value a.is
@@ -177,7 +191,7 @@ act_few so verb.Create ws read e =
     let a = bound (file_operand so ws) (λ file. Ok (act.Create file)) read e in operand_few so ws a.value a.is
 act_few so verb.Read ws read e = let a = bound (away_operands so ws) _ read e in away_few so ws a.value a.is
 act_few so verb.Repair ws read e = let a = bound (away_operands so ws) _ read e in away_few so ws a.value a.is
-act_few so verb.Convert ws read e = let a = bound (away_operands so ws) _ read e in away_few so ws a.value a.is
+act_few so verb.Convert ws read e = convert_few so ws (stop_words ws) read e
 act_few so verb.Reclaim ws read e = let a = bound (file_operand so ws) _ read e in operand_few so ws a.value a.is
 act_few so verb.Hold ws read e = let a = bound (file_operand so ws) _ read e in operand_few so ws a.value a.is
 act_few so verb.Release ws read e = let a = bound (file_operand so ws) _ read e in operand_few so ws a.value a.is

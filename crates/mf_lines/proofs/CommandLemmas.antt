@@ -1,6 +1,6 @@
 -- What is read of a command; a list of servers is printed in their order and read again.
 use Rattle.std.proofs.Common.{◌≡◌, ℕ, ◌^◌, ◌<◌, ◌≤◌, Bool, true, false, not, ◌&&◌, ltb, leb, List}
-use Rattle.std.proofs.Common.{[], ◌∷◌, ◌++◌, length, map, Some, None, Result, Ok, refl, sym, ap, ◌∙◌, subst}
+use Rattle.std.proofs.Common.{[], ◌∷◌, ◌++◌, length, map, Option, Some, None, Result, Ok, refl, sym, ap, ◌∙◌, subst}
 use Rattle.std.proofs.Common.{arith, lit<, inl, inr}
 use Rattle.std.specs.Prelude.{codes, ok_or, IfSome}
 use Rattle.std.specs.List.{list_all, list_any, join_with_byte, AllByRecursion}
@@ -17,7 +17,7 @@ use Rattle.mf_text.proofs.DecimalLemmas.{is_clean-decimal_text}
 use Rattle.mf_text.proofs.LineLemmas.{is_clean-append}
 use Rattle.mf_text.proofs.WordLemmas.{is_word, AreWordsAlone}
 use Rattle.mf_places.specs.declared.servers.Servers.{Servers}
-use Rattle.mf_places.specs.Servers.{set_of, servers_of}
+use Rattle.mf_places.specs.Servers.{no_servers, set_of, servers_of}
 use Rattle.mf_places.proofs.Sets.{set_of-lt, set_of-servers_of}
 use Rattle.mf_lines.specs.declared.parts.Kind.{Kind}
 use Rattle.mf_lines.specs.declared.parts.Kind.TheVariants as kind
@@ -32,10 +32,10 @@ use Rattle.mf_lines.specs.declared.words.LineWord.TheVariants as word
 use Rattle.mf_lines.specs.declared.forms.Form.{Form}
 use Rattle.mf_lines.specs.declared.forms.Form.TheVariants as says
 use Rattle.mf_lines.specs.Words.{◌>>=◌, refuse, verb_text, word_text}
-use Rattle.mf_lines.specs.Words.{spelled, no_words}
+use Rattle.mf_lines.specs.Words.{spelled, number_in, no_words}
 use Rattle.mf_lines.specs.Meaning.{SoFar, names_in, verb_of, file_in}
 use Rattle.mf_lines.specs.Lines.{within, is_above, numbers_in}
-use Rattle.mf_lines.specs.Lines.{file_number}
+use Rattle.mf_lines.specs.Lines.{file_number, command_fits, stop_words, stop_operands, convert_in}
 use Rattle.mf_lines.specs.Lines.{file_operand, form_in}
 use Rattle.mf_lines.specs.Lines.{knows_servers, lacks_server, server_operand, sweep_operand}
 use Rattle.mf_lines.specs.Lines.{has_twice, away_words, servers_in, away_operands}
@@ -43,7 +43,7 @@ use Rattle.mf_lines.specs.LineTexts.{name_at, listed, behind_verb}
 use Rattle.mf_lines.specs.LineTexts.{Alike}
 use Rattle.mf_lines.proofs.ServerLemmas.{has, none_of, any_passing, twice_passing, servers_are, reordered}
 use Rattle.mf_lines.proofs.LineWordLemmas.{bound, some_is, not_refused, numbers_are, file_is, IsSaid, operand_read}
-use Rattle.mf_lines.proofs.LineWordLemmas.{server_read, bare_read}
+use Rattle.mf_lines.proofs.LineWordLemmas.{server_read, bare_read, number_is, stop_is}
 
 -- ---- what follows
 
@@ -322,14 +322,16 @@ pub with_list : (so : SoFar) (v : Verb) (ws : List (List ℕ)) (make : ℕ → S
     → behind_verb (names_in so.script.files) (make n away)
     ≡ name_at (names_in so.script.files) n ∷ listed (servers_of away))
     → ((n : ℕ) (away : Servers) → file_in (make n away) ≡ Some n)
-    → ((xs : List (List ℕ)) → form_in so (word.Command v) xs
-    ≡ ((away_operands so xs >>= λ two. Ok (make two.0 two.1)) >>= λ act. Ok (says.Command act)))
+    → form_in so (word.Command v) ws
+    ≡ ((away_operands so ws >>= λ two. Ok (make two.0 two.1)) >>= λ act. Ok (says.Command act))
+    → ((name : List ℕ) (list : List ℕ) → form_in so (word.Command v) (name ∷ listed list)
+    ≡ ((away_operands so (name ∷ listed list) >>= λ two. Ok (make two.0 two.1)) >>= λ act. Ok (says.Command act)))
     → knows_servers so.last ≡ true → form_in so (word.Command v) ws ≡ Ok form
     → IsRead so (word.Command v) ws form
-with_list so v ws make form verb words file reads knows e =
+with_list so v ws make form verb words file reads prints knows e =
     let names : List (List ℕ) = names_in so.script.files in
     let b = bound (away_operands so ws >>= λ two. Ok (make two.0 two.1)) (λ act. Ok (says.Command act)) form
-    (sym (reads ws) ∙ e) in
+    (sym reads ∙ e) in
     let a = bound (away_operands so ws) (λ two. Ok (make two.0 two.1)) b.value b.is in
     let n : ℕ = a.value.0 in
     let away : Servers = a.value.1 in
@@ -347,7 +349,7 @@ with_list so v ws make form verb words file reads knows e =
         new = tt;
         known = subst (λ o. IfSome o (λ m. m < length names)) (sym (file n away)) found.1;
       };
-      again = reads printed
+      again = prints h.name (servers_of away)
           ∙ then (away_operands so printed >>= λ two. Ok (make two.0 two.1)) (λ x. Ok (says.Command x)) (make n away)
           (says.Command (make n away))
           (then (away_operands so printed) (λ two. Ok (make two.0 two.1)) (n, away) (make n away)
@@ -360,13 +362,61 @@ with_list so v ws make form verb words file reads knows e =
       alike = λ few. list_alike so ws n away h v few knows;
     })
 
+-- a conversion that stops
+abbrev stopping : ℕ × ℕ → Act
+stopping two = act.Convert two.0 no_servers (Some two.1)
+
+stop_read : (so : SoFar) (ws : List (List ℕ)) (two : List ℕ × List ℕ) (form : Form) → stop_words ws ≡ Some two
+    → ((stop_operands so two >>= λ r. Ok (stopping r)) >>= λ act. Ok (says.Command act)) ≡ Ok form
+    → IsSaid (names_in so.script.files) (word.Command verb.Convert) ws form
+stop_read so ws two form words e =
+    let names : List (List ℕ) = names_in so.script.files in
+    let a = bound (stop_operands so two >>= λ r. Ok (stopping r)) (λ act. Ok (says.Command act)) form e in
+    let b = bound (stop_operands so two) (λ r. Ok (stopping r)) a.value a.is in
+    let n = bound (number_in two.1) _ b.value b.is in
+    let f = bound (command_fits so) _ b.value n.next in
+    let k = bound (ok_or (file_number names two.0) kind.NoFile) (λ file. Ok (file, n.value)) b.value f.next in
+    let same : (k.value, n.value) ≡ b.value = let x = k.next in cc in
+    let act : stopping b.value ≡ a.value = let x = b.next in cc in
+    let is : says.Command (stopping (k.value, n.value)) ≡ form =
+    ap (λ r. says.Command (stopping r)) same ∙ ap says.Command act ∙ let x = a.next in cc in
+    let found = file_is names two.0 k.value (some_is (file_number names two.0) kind.NoFile k.value k.is) in
+    let numbers = number_is two.1 n.value n.is in
+    subst (IsSaid names (word.Command verb.Convert) ws) is (record {
+      word = refl;
+      text = ap (λ x. join_with_byte 32 (codes "convert" ∷ x))
+          (stop_is ws two words ∙ (λ i. sym found.0 i ∷ codes "stop" ∷ numbers i ∷ []));
+      new = tt;
+      known = found.1;
+    })
+
+-- the words of a list aren't those of a conversion that stops
+none_stops : (name : List ℕ) (list : List ℕ) → stop_words (name ∷ listed list) ≡ None
+none_stops name [] = refl
+none_stops name (n ∷ []) = refl
+none_stops name (n ∷ m ∷ list) = refl
+
+convert_read : (so : SoFar) (ws : List (List ℕ)) (form : Form) → knows_servers so.last ≡ true
+    → (o : Option (List ℕ × List ℕ)) → stop_words ws ≡ o → form_in so (word.Command verb.Convert) ws ≡ Ok form
+    → IsRead so (word.Command verb.Convert) ws form
+convert_read so ws form knows (Some two) words e =
+    as_it_is so (word.Command verb.Convert) ws form e
+    (stop_read so ws two form words
+    (sym (ap (λ o. convert_in so o ws >>= λ act. Ok (says.Command act)) words) ∙ e))
+convert_read so ws form knows None words e =
+    with_list so verb.Convert ws (λ n a. act.Convert n a None) form (λ n a. refl) (λ n a. refl) (λ n a. refl)
+    (ap (λ o. convert_in so o ws >>= λ act. Ok (says.Command act)) words)
+    (λ name list. ap (λ o. convert_in so o (name ∷ listed list) >>= λ act. Ok (says.Command act))
+    (none_stops name list))
+    knows e
+
 pub command_read : (so : SoFar) (v : Verb) (ws : List (List ℕ)) (form : Form) → knows_servers so.last ≡ true
     → form_in so (word.Command v) ws ≡ Ok form → IsRead so (word.Command v) ws form
 command_read so verb.Create ws form knows e =
     as_it_is so (word.Command verb.Create) ws form e
     (on_file so verb.Create ws act.Create form (λ n. refl) (λ n. refl) (λ n. refl) e)
 command_read so verb.Read ws form knows e =
-    with_list so verb.Read ws act.Read form (λ n a. refl) (λ n a. refl) (λ n a. refl) (λ xs. refl) knows e
+    with_list so verb.Read ws act.Read form (λ n a. refl) (λ n a. refl) (λ n a. refl) refl (λ n l. refl) knows e
 command_read so verb.Hold ws form knows e =
     as_it_is so (word.Command verb.Hold) ws form e
     (on_file so verb.Hold ws act.Hold form (λ n. refl) (λ n. refl) (λ n. refl) e)
@@ -374,10 +424,8 @@ command_read so verb.Release ws form knows e =
     as_it_is so (word.Command verb.Release) ws form e
     (on_file so verb.Release ws act.Release form (λ n. refl) (λ n. refl) (λ n. refl) e)
 command_read so verb.Repair ws form knows e =
-    with_list so verb.Repair ws act.Repair form (λ n a. refl) (λ n a. refl) (λ n a. refl) (λ xs. refl) knows e
-command_read so verb.Convert ws form knows e =
-    with_list so verb.Convert ws (λ n a. act.Convert n a None) form (λ n a. refl) (λ n a. refl) (λ n a. refl)
-    (λ xs. refl) knows e
+    with_list so verb.Repair ws act.Repair form (λ n a. refl) (λ n a. refl) (λ n a. refl) refl (λ n l. refl) knows e
+command_read so verb.Convert ws form knows e = convert_read so ws form knows (stop_words ws) refl e
 command_read so verb.Reclaim ws form knows e =
     as_it_is so (word.Command verb.Reclaim) ws form e
     (on_file so verb.Reclaim ws act.Reclaim form (λ n. refl) (λ n. refl) (λ n. refl) e)

@@ -32,7 +32,7 @@ use Rattle.mf_lines.specs.Lines.{within, servers_form, chunk_form, is_above, num
 use Rattle.mf_lines.specs.Lines.{are_thresholds, policy_form, tick_form}
 use Rattle.mf_lines.specs.Lines.{stage_form, has_name, file_number, text_in, hex_in, pattern_in, content_in}
 use Rattle.mf_lines.specs.Lines.{file_limits, file_form, file_operand, dump_form}
-use Rattle.mf_lines.specs.Lines.{command_fits, lacks_server, server_operand}
+use Rattle.mf_lines.specs.Lines.{command_fits, lacks_server, server_operand, stop_words}
 use Rattle.mf_lines.specs.LineTexts.{content_word, behind_content, name_at, behind_word}
 
 -- ---- what was had on the way to what is had
@@ -79,6 +79,23 @@ three_is (a ∷ b ∷ []) three e = absurd cc
 three_is (a ∷ b ∷ c ∷ []) three e =
     let same : (a, b, c) ≡ three = cc in ap (λ (t : List ℕ × List ℕ × List ℕ). t.0 ∷ t.1 ∷ t.2 ∷ []) same
 three_is (a ∷ b ∷ c ∷ d ∷ ws) three e = absurd cc
+
+-- a name and a number with `stop` between them
+pub stop_is : (ws : List (List ℕ)) (two : List ℕ × List ℕ) → stop_words ws ≡ Some two
+    → ws ≡ two.0 ∷ codes "stop" ∷ two.1 ∷ []
+stop_is [] two e = absurd cc
+stop_is (a ∷ []) two e = absurd cc
+stop_is (a ∷ b ∷ []) two e = absurd cc
+stop_is (a ∷ b ∷ c ∷ []) two e =
+    elim (cases_Bool (bytes_eq b (codes "stop"))) [
+      | inl holds ↦
+          let at = sym (cond-true _ _ _ holds) ∙ e in
+          let same : (a, c) ≡ two = cc in
+          (λ i. a ∷ (bytes_eq-Decides b (codes "stop")).0 holds i ∷ c ∷ [])
+          ∙ ap (λ (t : List ℕ × List ℕ). t.0 ∷ codes "stop" ∷ t.1 ∷ []) same
+      | inr fails ↦ let at = sym (cond-false _ _ _ fails) ∙ e in absurd cc
+    ]
+stop_is (a ∷ b ∷ c ∷ d ∷ ws) two e = absurd cc
 
 -- what is found passes
 pub find_passes : {X : Type 0} (p : X → Bool) (xs : List X) (x : X) → find p xs ≡ Some x → p x ≡ true

@@ -15,8 +15,8 @@ use Rattle.mf_lines.specs.declared.parts.Kind.{Kind}
 use Rattle.mf_lines.specs.declared.parts.Kind.TheVariants as kind
 use Rattle.mf_lines.specs.Meaning.{on_last}
 use Rattle.mf_lines.specs.LineTexts.{spaced}
-use Rattle.mf_lines.specs.Words.{◌>>=◌, behind, no_words, spelled}
-use Rattle.mf_lines.specs.Lines.{is_above, numbers_in, points_in, points_form, text_in, away_words}
+use Rattle.mf_lines.specs.Words.{◌>>=◌, behind, no_words, three_words, spelled}
+use Rattle.mf_lines.specs.Lines.{is_above, numbers_in, points_in, points_form, text_in, away_words, stop_words}
 
 -- ---- tests on a mapped list
 
@@ -185,6 +185,25 @@ away_listed ws name w [] is without some = absurd (some refl)
 away_listed ws name w (s ∷ servers) is without some =
     ap away_words is
     ∙ ap (λ r. r >>= λ _. Ok (name, s ∷ servers)) (cond-false _ _ _ (ap not without))
+
+-- ---- a name and a number with `stop` between them
+
+pub stop_three : (ws : List (List ℕ)) (name w n : List ℕ) → three_words ws ≡ Ok (name, w, n)
+    → stop_words ws ≡ cond (bytes_eq w (codes "stop")) (Some (name, n)) None
+stop_three [] name w n e = absurd cc
+stop_three (a ∷ []) name w n e = absurd cc
+stop_three (a ∷ b ∷ []) name w n e = absurd cc
+stop_three (a ∷ b ∷ c ∷ []) name w n e =
+    let same : (a, b, c) ≡ (name, w, n) = cc in
+    ap (λ (t : List ℕ × List ℕ × List ℕ). cond (bytes_eq t.1 (codes "stop")) (Some (t.0, t.2)) None) same
+stop_three (a ∷ b ∷ c ∷ d ∷ ws) name w n e = absurd cc
+
+pub stop_not : (ws : List (List ℕ)) (k : Kind) → three_words ws ≡ Err k → stop_words ws ≡ None
+stop_not [] k e = refl
+stop_not (a ∷ []) k e = refl
+stop_not (a ∷ b ∷ []) k e = refl
+stop_not (a ∷ b ∷ c ∷ []) k e = absurd cc
+stop_not (a ∷ b ∷ c ∷ d ∷ ws) k e = refl
 
 -- ---- words behind spaces
 

@@ -1,9 +1,10 @@
 -- The text of a line.
-use Rattle.std.specs.Prelude.{◌≡◌, ℕ, ◌⊎◌, List, [], ◌∷◌, map, slice_index_or, codes}
+use Rattle.std.specs.Prelude.{◌≡◌, ℕ, ◌⊎◌, List, [], ◌∷◌, map, slice_index_or, codes, Option, Some, None}
 use Rattle.std.specs.List.{join_with_byte}
 use Rattle.std.specs.List.Sorted.{IsPermutation}
 use Rattle.mf_text.specs.Decimal.{decimal_text}
 use Rattle.mf_text.specs.Hex.{hex_text}
+use Rattle.mf_places.specs.declared.servers.Servers.{Servers}
 use Rattle.mf_places.specs.Servers.{servers_of}
 use Rattle.mf_lines.specs.declared.parts.Content.{Content}
 use Rattle.mf_lines.specs.declared.parts.Content.TheVariants as given
@@ -40,6 +41,12 @@ abbrev pub listed : List ℕ → List (List ℕ)
 listed [] = []
 listed (server ∷ servers) = codes "without" ∷ map decimal_text (server ∷ servers)
 
+-- what stands behind the name of a conversion's file: the servers that it can't reach, or after how many operations it
+-- stops
+abbrev pub limited : Servers → Option ℕ → List (List ℕ)
+limited away None = listed (servers_of away)
+limited away (Some n) = codes "stop" ∷ decimal_text n ∷ []
+
 -- what stands behind the word of a command; the servers that it can't reach ascend
 abbrev pub behind_verb : List (List ℕ) → Act → List (List ℕ)
 behind_verb names (act.Create file) = name_at names file ∷ []
@@ -47,7 +54,7 @@ behind_verb names (act.Read file away) = name_at names file ∷ listed (servers_
 behind_verb names (act.Hold file) = name_at names file ∷ []
 behind_verb names (act.Release file) = name_at names file ∷ []
 behind_verb names (act.Repair file away) = name_at names file ∷ listed (servers_of away)
-behind_verb names (act.Convert file away stop) = name_at names file ∷ listed (servers_of away)
+behind_verb names (act.Convert file away stop) = name_at names file ∷ limited away stop
 behind_verb names (act.Reclaim file) = name_at names file ∷ []
 behind_verb names (act.Remove file) = name_at names file ∷ []
 behind_verb names (act.Lose server) = decimal_text server ∷ []

@@ -11,7 +11,7 @@ use Rattle.mf_text.specs.Lines.{is_clean}
 use Rattle.mf_text.specs.Words.{words_of}
 use Rattle.mf_text.specs.Hex.{hex_of}
 use Rattle.mf_places.specs.declared.servers.Servers.{Servers}
-use Rattle.mf_places.specs.Servers.{set_of}
+use Rattle.mf_places.specs.Servers.{set_of, no_servers}
 use Rattle.mf_lines.specs.declared.parts.Kind.{Kind}
 use Rattle.mf_lines.specs.declared.parts.Kind.TheVariants as kind
 use Rattle.mf_lines.specs.declared.parts.LimitName.{LimitName}
@@ -282,6 +282,24 @@ away_operands so words = do
   _ ← refuse (list_any (lacks_server so) servers) kind.NoServer
   Ok (file, set_of servers)
 
+-- a file's name, and the number behind `stop`, where the words are these
+abbrev pub stop_words : List (List ℕ) → Option (List ℕ × List ℕ)
+stop_words (name ∷ word ∷ number ∷ []) = if bytes_eq word (codes "stop") then Some (name, number) else None
+stop_words words = None
+
+-- a command's operands: a file, and after how many operations on chunks it stops
+abbrev pub stop_operands : SoFar → List ℕ × List ℕ → Result (ℕ × ℕ) Kind
+stop_operands so two = do
+  stop ← number_in two.1
+  _ ← command_fits so
+  file ← ok_or (file_number (names_in so.script.files) two.0) kind.NoFile
+  Ok (file, stop)
+
+-- a conversion: one that stops, or one that can't reach these servers
+abbrev pub convert_in : SoFar → Option (List ℕ × List ℕ) → List (List ℕ) → Result Act Kind
+convert_in so (Some two) words = stop_operands so two >>= λ r. Ok (act.Convert r.0 no_servers (Some r.1))
+convert_in so None words = away_operands so words >>= λ two. Ok (act.Convert two.0 two.1 None)
+
 -- a command without an operand, which needs a policy
 abbrev pub sweep_operand : SoFar → List (List ℕ) → Result (Unit {0}) Kind
 sweep_operand so words = do
@@ -296,7 +314,7 @@ act_in so verb.Read words = away_operands so words >>= λ two. Ok (act.Read two.
 act_in so verb.Hold words = file_operand so words >>= λ file. Ok (act.Hold file)
 act_in so verb.Release words = file_operand so words >>= λ file. Ok (act.Release file)
 act_in so verb.Repair words = away_operands so words >>= λ two. Ok (act.Repair two.0 two.1)
-act_in so verb.Convert words = away_operands so words >>= λ two. Ok (act.Convert two.0 two.1 None)
+act_in so verb.Convert words = convert_in so (stop_words words) words
 act_in so verb.Reclaim words = file_operand so words >>= λ file. Ok (act.Reclaim file)
 act_in so verb.Remove words = file_operand so words >>= λ file. Ok (act.Remove file)
 act_in so verb.Lose words = server_operand so words >>= λ server. Ok (act.Lose server)

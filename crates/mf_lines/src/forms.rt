@@ -1,6 +1,7 @@
 //! What a line says, or its fault.
 
 ghost use Rattle.std.specs.Prelude.{◌≡◌, ◌≤◌, length, map, false, IfOk, IfErr, Ok, Err};
+ghost use Rattle.std.specs.Prelude.{IfSome, IfNone, Some, None};
 ghost use Rattle.std.specs.List.{list_any};
 ghost use Rattle.mf_text.specs.Lines.{is_clean};
 ghost use Rattle.mf_lines.specs.Words.{behind};
@@ -12,6 +13,7 @@ ghost use Rattle.mf_lines.specs.Lines.{phase_form, client_form, file_operand, ac
 ghost use Rattle.mf_lines.specs.Lines.{form_in};
 ghost use Rattle.mf_lines.specs.Lines.{command_fits, knows_servers, lacks_server, server_operand};
 ghost use Rattle.mf_lines.specs.Lines.{has_twice, away_words, servers_in, away_operands};
+ghost use Rattle.mf_lines.specs.Lines.{stop_words, stop_operands, convert_in};
 ghost use Rattle.mf_lines.specs.Lines.{first_form, form_at};
 ghost use Rattle.mf_lines.specs.Drafts.{so_in, IsDraft};
 
@@ -365,6 +367,48 @@ fn away_operands(alloc: Global, draft: &Draft, rest: Option<&[u8]>) -> Result<(u
     Ok((file, Servers::of(&servers)))
 }
 
+// A file's name, and the number behind `stop`, where the words are these.
+fn stop_words(rest: Option<&[u8]>) -> Option<(&[u8], &[u8])>
+    ensures some { IfSome result (λ r. stop_words (behind rest.entry) ≡ Some (r.0.now, r.1.now)) }
+    ensures none { IfNone result (stop_words (behind rest.entry) ≡ None) }
+{
+    let Ok((name, word, stop)) = last_three_words(rest) else {
+        return None;
+    };
+    if word != b"stop".as_slice() {
+        return None;
+    }
+    Some((name, stop))
+}
+
+// A command's operands: a file, and after how many operations on chunks it stops.
+fn stop_operands(draft: &Draft, name: &[u8], stop: &[u8]) -> Result<(u32, u32), Kind>
+    requires { IsDraft draft.now }
+    ensures { result ≡ stop_operands (so_in draft.now) (name.now, stop.now) }
+{
+    let stop = number(stop)?;
+    command_fits(draft)?;
+    let file = draft.file_number(name).ok_or(Kind::NoFile)?;
+    Ok((file, stop))
+}
+
+// A conversion: one that stops, or one that can't reach the servers of its list.
+fn convert_of(alloc: Global, draft: &Draft, rest: Option<&[u8]>) -> Result<Act, Kind>
+    requires { IsDraft draft.now }
+    ensures { Says result (convert_in (so_in draft.now) (stop_words (behind rest.entry))
+        (behind rest.entry)) }
+{
+    if let Some((name, stop)) = stop_words(rest) {
+        let (file, stop) = stop_operands(draft, name, stop)?;
+        let away = Servers::none();
+        let stop = Some(stop);
+        return Ok(Act::Convert { file, away, stop });
+    }
+    let (file, away) = away_operands(alloc, draft, rest)?;
+    let stop = None;
+    Ok(Act::Convert { file, away, stop })
+}
+
 // Nothing, where a command without an operand stands here, which needs a policy.
 fn sweep_operand(draft: &Draft, rest: Option<&[u8]>) -> Result<(), Kind>
     ensures { result ≡ sweep_operand (so_in draft.now) (behind rest.entry) }
@@ -394,11 +438,7 @@ fn act_of(alloc: Global, draft: &Draft, verb: Verb, rest: Option<&[u8]>) -> Resu
             let (file, away) = away_operands(alloc, draft, rest)?;
             Ok(Act::Repair { file, away })
         }
-        Verb::Convert => {
-            let (file, away) = away_operands(alloc, draft, rest)?;
-            let stop = None;
-            Ok(Act::Convert { file, away, stop })
-        }
+        Verb::Convert => convert_of(alloc, draft, rest),
         Verb::Reclaim => Ok(Act::Reclaim(file_operand(draft, rest)?)),
         Verb::Remove => Ok(Act::Remove(file_operand(draft, rest)?)),
         Verb::Lose => Ok(Act::Lose(server_operand(draft, rest)?)),

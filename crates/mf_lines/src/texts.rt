@@ -6,7 +6,7 @@ ghost use Rattle.mf_lines.specs.declared.forms.Form.TheVariants as says;
 ghost use Rattle.mf_lines.specs.Meaning.{names_in};
 ghost use Rattle.std.specs.List.{flat_map};
 ghost use Rattle.mf_places.specs.Servers.{servers_of};
-ghost use Rattle.mf_lines.specs.LineTexts.{name_at, listed, spaced, line_text};
+ghost use Rattle.mf_lines.specs.LineTexts.{name_at, listed, limited, spaced, line_text};
 
 use crate::parts::{Act, FileLine};
 use mf_places::Servers;
@@ -79,6 +79,26 @@ fn push_away(
     push_listed(out, &servers)
 }
 
+// The name of a file, and the servers that can't be reached, or the number behind `stop`.
+fn push_limited(
+    alloc: Global,
+    out: &mut Vec<u8>,
+    files: &[FileLine],
+    file: u32,
+    away: Servers,
+    stop: Option<u32>,
+) -> Result<(), AllocError>
+    ensures { OnOk result (out.new.items ≡ out.old.items
+        ++ flat_map spaced (name_at (names_in files.now) file ∷ limited away stop)) }
+{
+    let Some(stop) = stop else {
+        return push_away(alloc, out, files, file, away);
+    };
+    push_name(out, files, file)?;
+    out.extend_from_slice(b" stop")?;
+    push_number(out, stop)
+}
+
 /// Writes a command, as a script has it. Fails only where memory runs out.
 #[tactic(auto, unfolding(crate::specs::LineTexts::line_text), using(std::proofs::lemmas::List::append_assoc))]
 pub fn push_act(
@@ -94,7 +114,7 @@ pub fn push_act(
     match act {
         Act::Read { file, away } => push_away(alloc, out, files, file, away),
         Act::Repair { file, away } => push_away(alloc, out, files, file, away),
-        Act::Convert { file, away, .. } => push_away(alloc, out, files, file, away),
+        Act::Convert { file, away, stop } => push_limited(alloc, out, files, file, away, stop),
         Act::Create(file)
         | Act::Hold(file)
         | Act::Release(file)

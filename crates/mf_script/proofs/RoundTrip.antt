@@ -25,7 +25,7 @@ use Rattle.mf_lines.specs.Words.{verb_text, word_text}
 use Rattle.mf_lines.specs.Meaning.{Script, SoFar, verb_of, file_in, first_word, names_in, with_form, so_before}
 use Rattle.mf_lines.specs.Meaning.{with_line, so_with, so_of}
 use Rattle.mf_lines.specs.Lines.{knows_servers, may_follow, form_at}
-use Rattle.mf_lines.specs.LineTexts.{listed, behind_verb, behind_word, spaced, line_text, Alike}
+use Rattle.mf_lines.specs.LineTexts.{listed, limited, behind_verb, behind_word, spaced, line_text, Alike}
 use Rattle.mf_lines.proofs.LineWordLemmas.{KnowsFile}
 use Rattle.mf_lines.proofs.FormLemmas.{no_morph, LineIs, line_is}
 use Rattle.mf_script.specs.Texts.{MakeForms, HasForms}
@@ -53,7 +53,7 @@ same_words names more (act.Release file) h = ap (λ w. w ∷ []) (sym (get_or_ap
 same_words names more (act.Repair file away) h =
     ap (λ w. w ∷ listed (servers_of away)) (sym (get_or_append_left names more [] file h))
 same_words names more (act.Convert file away stop) h =
-    ap (λ w. w ∷ listed (servers_of away)) (sym (get_or_append_left names more [] file h))
+    ap (λ w. w ∷ limited away stop) (sym (get_or_append_left names more [] file h))
 same_words names more (act.Reclaim file) h = ap (λ w. w ∷ []) (sym (get_or_append_left names more [] file h))
 same_words names more (act.Remove file) h = ap (λ w. w ∷ []) (sym (get_or_append_left names more [] file h))
 same_words names more (act.Lose server) h = refl

@@ -24,8 +24,8 @@ returns-in-Repair c =
 
 pub returns-in-Convert : goal.returns-in-Convert
 returns-in-Convert c =
-    on_ok-map c.push_away-in-Convert.result _ _
+    on_ok-map c.push_limited.result _ _
     (act_line (names_in c.args.files.now) c.args.act c.args.out.now.items c.extend_from_slice.new.self.items
-    c.push_away-in-Convert.new.out.items c.text.result.now _ c.in_ok-extend_from_slice.ensures.items
+    c.push_limited.new.out.items c.text.result.now _ c.in_ok-extend_from_slice.ensures.items
     (c.text.ensures ∙ ap verb_text c.verb.ensures) (ap (behind_verb (names_in c.args.files.now)) c.in-Convert.is))
-    c.push_away-in-Convert.ensures
+    c.push_limited.ensures

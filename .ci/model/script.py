@@ -14,7 +14,7 @@ MOST_CHUNK, MOST_FILES, MOST_START, MOST_LENGTH, MOST_CHUNKS = 65536, 64, 250, 1
 MOST_PHASES, MOST_CLIENTS, MOST_COMMANDS = 64, 8, 1024
 
 # Whether `convert NAME stop N` is a line of scripts.
-HAS_STOP = False
+HAS_STOP = True
 
 ON_FILE = ['create', 'read', 'hold', 'release', 'repair', 'convert', 'reclaim', 'remove']
 COMMANDS = ON_FILE + ['lose', 'sweep']

@@ -1,6 +1,6 @@
 -- The texts of a report are UTF-8.
 use Rattle.std.proofs.Common.{◌≡◌, ℕ, zero, suc, ◌+◌, ◌-◌, ◌<◌, ◌/◌, ◌%◌, ◌^◌, eqb, ltb, leb, Bool, true, false, List}
-use Rattle.std.proofs.Common.{[]}
+use Rattle.std.proofs.Common.{[], Option, Some, None}
 use Rattle.std.proofs.Common.{◌∷◌, ◌++◌, map, length, get_or, flat_map, refl, sym, ap, ◌∙◌, subst, arith, inl, inr, All}
 use Rattle.std.specs.Prelude.{codes, slice_index_or}
 use Rattle.std.specs.Fmt.{digits, digits_onto, digit_glyph}
@@ -18,6 +18,7 @@ use Rattle.mf_text.specs.Lines.{is_printable, is_clean}
 use Rattle.mf_text.proofs.HexLemmas.{is_clean-hex_text}
 use Rattle.mf_places.specs.Names as names
 use Rattle.mf_places.specs.Placement.{server_of}
+use Rattle.mf_places.specs.declared.servers.Servers.{Servers}
 use Rattle.mf_places.specs.Servers.{servers_of}
 use Rattle.mf_places.specs.declared.Name.{Name}
 use Rattle.mf_places.specs.declared.Name.TheVariants.{Data, Copy, Parity}
@@ -30,7 +31,7 @@ use Rattle.mf_lines.specs.declared.words.Verb.{Verb}
 use Rattle.mf_lines.specs.declared.words.Verb.TheVariants as verb
 use Rattle.mf_lines.specs.Words.{verb_text}
 use Rattle.mf_lines.specs.Meaning.{verb_of}
-use Rattle.mf_lines.specs.LineTexts.{name_at, listed, behind_verb, line_text}
+use Rattle.mf_lines.specs.LineTexts.{name_at, listed, limited, behind_verb, line_text}
 use Rattle.mf_convert.specs.declared.change.Change.{Change}
 use Rattle.mf_convert.specs.declared.change.Change.TheVariants as change
 use Rattle.mf_read.specs.declared.outcome.ReadOutcome.{ReadOutcome}
@@ -273,6 +274,10 @@ listed_are : (servers : List ℕ) → AllByRecursion IsUtf8 (listed servers)
 listed_are [] = tt
 listed_are (server ∷ servers) = (word (codes "without") refl, numbers_are (server ∷ servers))
 
+limited_are : (away : Servers) (stop : Option ℕ) → AllByRecursion IsUtf8 (limited away stop)
+limited_are away None = listed_are (servers_of away)
+limited_are away (Some n) = (word (codes "stop") refl, (number n, tt))
+
 verb_is : (v : Verb) → IsUtf8 (verb_text v)
 verb_is verb.Create = word (codes "create") refl
 verb_is v = word (verb_text v) refl
@@ -283,7 +288,7 @@ behind_is names (act.Read file away) all = (file_name_is names file all, listed_
 behind_is names (act.Hold file) all = (file_name_is names file all, tt)
 behind_is names (act.Release file) all = (file_name_is names file all, tt)
 behind_is names (act.Repair file away) all = (file_name_is names file all, listed_are (servers_of away))
-behind_is names (act.Convert file away stop) all = (file_name_is names file all, listed_are (servers_of away))
+behind_is names (act.Convert file away stop) all = (file_name_is names file all, limited_are away stop)
 behind_is names (act.Reclaim file) all = (file_name_is names file all, tt)
 behind_is names (act.Remove file) all = (file_name_is names file all, tt)
 behind_is names (act.Lose server) all = (number server, tt)

@@ -20,10 +20,10 @@
 //! (`Creates`, `Converts`, `Removes`). So nothing is probed, put, restored or published where a
 //! file isn't created or removed. A convert publishes only behind the probe of each name of the
 //! next generation, all gets, and a put or restore of each parity that wasn't there; it says the
-//! first name that it needed and didn't have; it stops after just so many chunk operations; and it
-//! leaves the actor with its right given back and its Work slot free (`Leaves`). Laws: a convert
-//! reads no data and no copy; alone, each has one outcome and leaves one actor, want of memory
-//! aside.
+//! first name that it needed and didn't have; and it stops after just so many chunk operations. Each
+//! of the three leaves the actor with its right given back and its Work slot free (`Leaves`). Laws:
+//! a convert reads no data and no copy; alone, each has one outcome and leaves one actor, want of
+//! memory aside.
 //!
 //! *Only tested.* Conversions worked by hand, with their counts.
 #![tactic(auto)]

@@ -1,5 +1,6 @@
 pub mod Orders
 pub mod Filling
+pub mod Places
 pub mod Solving
 pub mod Planned
 pub mod Blocks

@@ -8,3 +8,4 @@ pub mod Caches
 pub mod Fronts
 pub mod Plans
 pub mod Columns
+pub mod Rows

@@ -137,7 +137,7 @@ fn add_piece(factor: u8, piece: &Option<Chunk>, start: usize, out: &mut [u8])
 
 // The weight of piece `t`: the sum, over the parities, of the entry of row e times the parity's
 // point to the power of `t`.
-fn weight(inverse: &Matrix, e: u32, points: &[u8], t: u32) -> u8
+pub(crate) fn weight(inverse: &Matrix, e: u32, points: &[u8], t: u32) -> u8
     requires row { e < inverse.now.rows }
     requires entries { inverse.now.columns ≡ length points.now }
     requires few { length points.now ≤ 8 }
@@ -219,7 +219,12 @@ fn decode_rows(
 }
 
 // The entries of row e.
-fn entries_of(alloc: Global, inverse: &Matrix, e: u32, count: usize) -> Result<Vec<u8>, Memory>
+pub(crate) fn entries_of(
+    alloc: Global,
+    inverse: &Matrix,
+    e: u32,
+    count: usize,
+) -> Result<Vec<u8>, Memory>
     requires row { e < inverse.now.rows }
     requires entries { inverse.now.columns ≡ count }
     requires few { count ≤ 8 }

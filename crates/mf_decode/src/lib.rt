@@ -22,6 +22,9 @@
 //! of an asking, is Short exactly where the asking is short, and answers All with the data list
 //! with which the answers agree; `gather_kept` has the contract of `gather`.
 //!
+//! `decode_row` gives a row of coefficients by which what is there gives an erased chunk, of every
+//! stripe that has lost what the plan says.
+//!
 //! *Neither.* Speed, and which plans a cache keeps.
 #![tactic(auto)]
 
@@ -31,6 +34,7 @@ mod caching;
 mod gathering;
 mod pieces;
 mod planning;
+mod rows;
 
 pub use applying::{apply, apply_block};
 pub use caching::PlanCache;
@@ -39,3 +43,4 @@ pub use mf_kernel::{Chunk, Memory};
 pub use mf_matrix::KernelList;
 pub use pieces::{Asked, Pieces, Place};
 pub use planning::{DecodePlan, NoPlan, plan};
+pub use rows::decode_row;

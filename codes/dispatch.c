@@ -32,3 +32,8 @@ TWO_BUILDS(combine,
            (const uint8_t *row, size_t row_length, const struct morph_codes_piece *pieces, size_t piece_count,
             size_t start, uint8_t *out, size_t length),
            (row, row_length, pieces, piece_count, start, out, length))
+
+TWO_BUILDS(decode_row,
+           (const uint8_t *points, size_t point_count, uint32_t piece_count, const uint32_t *lost, size_t lost_count,
+            const uint32_t *had, size_t had_count, uint32_t e, uint8_t *row, size_t row_length),
+           (points, point_count, piece_count, lost, lost_count, had, had_count, e, row, row_length))

@@ -6,9 +6,8 @@
  * good. Parities of narrow stripes merge into those of a wide one, and no chunk of data takes part.
  *
  * Each call tests what it is handed before it writes. It answers MORPH_CODES_DONE, or a status that says what is
- * refused, and then nothing was written. Where several things are refused, the least status is answered. No call keeps
- * a pointer, and only `morph_codes_check` takes memory, by malloc, and gives it back before it returns. Calls may run
- * in several threads at once.
+ * refused, and then nothing was written. No call keeps a pointer. Only `morph_codes_check` and `morph_codes_decode_row`
+ * take memory, by malloc, and give it back before they return. Calls may run in several threads at once.
  *
  * What the caller owes: each pointer has as many bytes or entries as the length beside it, and isn't NULL, also where
  * that length is 0. What is written overlaps nothing else that the call is handed. Nobody writes to it meanwhile.
@@ -26,10 +25,10 @@ extern "C" {
 enum {
     MORPH_CODES_DONE = 0,        /* it is done */
     MORPH_CODES_WIDTH = 1,       /* more than 64 chunks, or a width that is 0 or above 64 */
-    MORPH_CODES_COUNT = 2,       /* not a room for each point, a room of another size, or a row of another length */
+    MORPH_CODES_COUNT = 2,       /* lists that don't fit together, as rooms and points; each call says which */
     MORPH_CODES_LENGTH = 3,      /* a piece has not the columns that are asked for */
     MORPH_CODES_POINTS = 4,      /* no point or more than four, a point that is 0, or two equal */
-    MORPH_CODES_UNDECODABLE = 5, /* some loss of as many places as there are points can't be made good */
+    MORPH_CODES_UNDECODABLE = 5, /* a loss of as many places as there are points can't be made good */
     MORPH_CODES_MEMORY = 6       /* memory ran out */
 };
 
@@ -73,6 +72,18 @@ uint32_t morph_codes_merge(uint8_t point, uint32_t width, const struct morph_cod
  * COUNT: not a coefficient for each piece. LENGTH: a piece has less than start + length bytes. */
 uint32_t morph_codes_combine(const uint8_t *row, size_t row_length, const struct morph_codes_piece *pieces,
                              size_t piece_count, size_t start, uint8_t *out, size_t length);
+
+/* Overwrites `row` with the coefficients by which the e-th lost piece of a stripe of `piece_count` pieces is had from
+ * what is left: `morph_codes_combine` with this row, over the parities that are had, in order, and then the pieces that
+ * aren't lost, in order, gives its bytes. The row serves every stripe that has lost the same pieces and has the same
+ * parities, so it may be kept. `lost` are the numbers of the lost pieces, `had` those of as many parities, each from 0
+ * and ascending.
+ * WIDTH: no piece, or more than 64. POINTS: no point, or more than four.
+ * COUNT: not as many parities as lost pieces, a number that is too large or out of order, no e-th lost piece, or a row
+ * that has not `piece_count` bytes. UNDECODABLE: these parities don't tell these pieces. Else MEMORY. */
+uint32_t morph_codes_decode_row(const uint8_t *points, size_t point_count, uint32_t piece_count, const uint32_t *lost,
+                                size_t lost_count, const uint32_t *had, size_t had_count, uint32_t e, uint8_t *row,
+                                size_t row_length);
 
 #ifdef __cplusplus
 }

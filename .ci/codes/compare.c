@@ -107,6 +107,41 @@ static void compare_blocks(const piece *pieces, const uint8_t *wanted, const uin
     }
 }
 
+/* The numbers of the ones of a set, ascending. */
+static size_t numbers(unsigned set, uint32_t *made)
+{
+    size_t count = 0;
+    for (uint32_t t = 0; set >> t; t++)
+        if (set >> t & 1)
+            made[count++] = t;
+    return count;
+}
+
+/* Each set of lost pieces, by each set of as many parities. */
+static void decode(const piece *pieces, uint8_t *const *parities, size_t size)
+{
+    for (unsigned gone = 1; gone < 1u << K; gone++)
+        for (unsigned kept = 1; kept < 1u << P; kept++) {
+            uint32_t lost[K], had[P];
+            size_t erased = numbers(gone, lost), count = 0;
+            if (numbers(kept, had) != erased)
+                continue;
+            piece left[K];
+            for (size_t j = 0; j < erased; j++)
+                left[count++] = (piece){parities[had[j]], size};
+            for (int t = 0; t < K; t++)
+                if (!(gone >> t & 1))
+                    left[count++] = pieces[t];
+            for (uint32_t e = 0; e < erased; e++) {
+                uint8_t row[K], *out = bytes(size, 0x77);
+                expect(morph_codes_decode_row(points, P, K, lost, erased, had, erased, e, row, K) == MORPH_CODES_DONE &&
+                           morph_codes_combine(row, K, left, K, 0, out, size) == MORPH_CODES_DONE &&
+                           same(out, pieces[lost[e]].bytes, size), "a decoded piece", size);
+                free(out);
+            }
+        }
+}
+
 static void compare(size_t size)
 {
     piece pieces[WIDE];
@@ -136,6 +171,8 @@ static void compare(size_t size)
     for (int t = 0; t < K; t++)
         row[t] = power(points[1], (unsigned)t);
     compare_blocks(pieces, narrow[0][1], row, size);
+    if (size < 5000)
+        decode(pieces, narrow[0], size);
     for (int t = 0; t < WIDE; t++)
         free((void *)pieces[t].bytes);
     for (int b = 0; b < 2; b++)
@@ -168,6 +205,19 @@ static void refuse(void)
     expect(morph_codes_merge(2, 6, many, 6, 0, out, 8) == MORPH_CODES_LENGTH, "a parity too short", 7);
     expect(morph_codes_combine(data, 5, many, 6, 0, out, 8) == MORPH_CODES_COUNT, "a coefficient too few", 5);
     expect(morph_codes_combine(data, 6, many, 6, 0, out, 8) == MORPH_CODES_LENGTH, "a short piece of a row", 6);
+    static const uint32_t falling[2] = {1, 0}, rising[2] = {0, 1}, far[2] = {0, 6};
+    static const uint8_t twice[2] = {3, 3};
+    expect(morph_codes_decode_row(points, 3, 0, rising, 1, rising, 1, 0, out, 0) == MORPH_CODES_WIDTH, "no piece", 0);
+    expect(morph_codes_decode_row(points, 3, 65, rising, 1, rising, 1, 0, out, 8) == MORPH_CODES_WIDTH,
+           "65 pieces of a row", 65);
+    expect(morph_codes_decode_row(points, 0, 8, rising, 1, rising, 1, 0, out, 8) == MORPH_CODES_POINTS, "no point", 0);
+    expect(morph_codes_decode_row(points, 3, 8, falling, 2, rising, 2, 0, out, 8) == MORPH_CODES_COUNT, "falling", 2);
+    expect(morph_codes_decode_row(points, 3, 8, rising, 2, rising, 1, 0, out, 8) == MORPH_CODES_COUNT, "too few", 1);
+    expect(morph_codes_decode_row(points, 3, 8, rising, 2, far, 2, 0, out, 8) == MORPH_CODES_COUNT, "no parity", 6);
+    expect(morph_codes_decode_row(points, 3, 8, rising, 2, rising, 2, 2, out, 8) == MORPH_CODES_COUNT, "no third", 2);
+    expect(morph_codes_decode_row(points, 3, 7, rising, 2, rising, 2, 0, out, 8) == MORPH_CODES_COUNT, "a long row", 7);
+    expect(morph_codes_decode_row(twice, 2, 8, rising, 2, rising, 2, 0, out, 8) == MORPH_CODES_UNDECODABLE,
+           "two equal points", 2);
     for (int x = 0; x < 8; x++)
         expect(out[x] == 0x77 && kept[x] == 0x77, "a refusal has written", (size_t)x);
 }
@@ -195,6 +245,16 @@ static void check(void)
         granted = -1;
     }
     expect(refused > 1 && status == MORPH_CODES_UNDECODABLE, "check with malloc refused", (size_t)refused);
+    static const uint32_t first[3] = {0, 1, 2};
+    uint8_t row[K] = {0x77, 0x77, 0x77, 0x77, 0x77, 0x77};
+    for (refused = 0, status = MORPH_CODES_MEMORY; refused < 10000 && status == MORPH_CODES_MEMORY; refused++) {
+        granted = refused;
+        status = morph_codes_decode_row(points, P, K, first, 3, first, 3, 1, row, K);
+        granted = -1;
+        if (status == MORPH_CODES_MEMORY)
+            expect(row[0] == 0x77 && row[K - 1] == 0x77, "a row without memory was written", (size_t)refused);
+    }
+    expect(refused > 1 && status == MORPH_CODES_DONE, "a row with malloc refused", (size_t)refused);
 }
 
 int main(void)

@@ -1,3 +1,4 @@
 mod Pieces
 mod Rooms
 mod Fronts
+mod Losses

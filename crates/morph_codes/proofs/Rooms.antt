@@ -33,12 +33,15 @@ pub room_more : (P : ℕ → List ℕ → Type 0) (rooms : List Room) (p q : ℕ
     → P p room.bytes.now → ((q ≡ p → ⊥) → P q (get_or (rooms_of rooms) q []))
     → P q (get_or (rooms_of (slice_set rooms p room)) q [])
 room_more P rooms p q room lt here others = elim (cases_lt q p) [
-  | inl below ↦ subst (λ (xs : List ℕ). P q xs) (sym (room_kept rooms p q room (λ e. omega arith))) (others (λ e. omega arith))
+  | inl below ↦ subst (λ (xs : List ℕ). P q xs) (sym (room_kept rooms p q room (λ e. omega arith)))
+      (others (λ e. omega arith))
   | inr high ↦ elim (cases_lt p q) [
-    | inl above ↦ subst (λ (xs : List ℕ). P q xs) (sym (room_kept rooms p q room (λ e. omega arith))) (others (λ e. omega arith))
+    | inl above ↦ subst (λ (xs : List ℕ). P q xs) (sym (room_kept rooms p q room (λ e. omega arith)))
+        (others (λ e. omega arith))
     | inr low ↦
         let same : q ≡ p = omega arith in
-        subst (λ (xs : List ℕ). P q xs) (sym (room_set rooms p q room lt same)) (subst (λ (n : ℕ). P n room.bytes.now) (sym same) here)
+        subst (λ (xs : List ℕ). P q xs) (sym (room_set rooms p q room lt same))
+        (subst (λ (n : ℕ). P n room.bytes.now) (sym same) here)
   ]
 ]
 

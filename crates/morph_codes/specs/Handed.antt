@@ -1,7 +1,9 @@
 -- What a caller hands in.
 use Rattle.std.specs.Prelude.{List, [], ℕ, ◌≡◌, ◌+◌, ◌<◌, ◌≤◌, All, length, map, slice_index, slice_index_or}
+use Rattle.std.specs.Prelude.{Option, IfSome}
 use Rattle.mf_code.specs.Rows.{column}
 use Rattle.mf_code.specs.Sums.{weighted}
+use Rattle.mf_decode.specs.Decoding.{Plan, gaps_from}
 use Rattle.morph_codes.specs.declared.handed.Piece.{Piece}
 use Rattle.morph_codes.specs.declared.handed.Room.{Room}
 
@@ -30,3 +32,13 @@ IsFront point pieces n bytes =
 abbrev pub AreFronts : List ℕ → List Piece → ℕ → List Room → Type 0
 AreFronts points pieces n rooms =
     (q : ℕ) → q < length rooms → IsFront (slice_index points q) pieces n (slice_index_or (rooms_of rooms) q [])
+
+-- The plan of stripes of `count` pieces that have lost these and have these parities.
+abbrev pub plan_of : List ℕ → ℕ → List ℕ → List ℕ → Plan
+plan_of points count lost had = record { points = points; width = count; erased = lost; parities = had }
+
+-- A stripe of `count` pieces that has lost just these.
+pub record HasLost (count : ℕ) (lost : List ℕ) (pieces : List (Option (List ℕ))) : Type 0 where
+  pub len : length pieces ≡ count
+  pub gaps : gaps_from 0 pieces ≡ lost
+  pub bytes : All (λ piece. IfSome piece (λ chunk. All (λ b. b < 256) chunk)) pieces

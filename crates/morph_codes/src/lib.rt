@@ -2,7 +2,8 @@
 //!
 //! A chunk is handed in as a pointer and a length, and a stripe as an array of these. Each call
 //! tests what it is handed before it writes, and answers a status: 0 where it is done, and else
-//! the number of what is refused, with nothing written. Only the check takes memory.
+//! the number of what is refused, with nothing written. Only the check and the making of a row take
+//! memory.
 //!
 //! *Proved.* The bytes are those of the definitions of the code, or the status says what is
 //! refused; nothing is written then. No call panics.
@@ -11,7 +12,7 @@
 //! else; speed.
 #![tactic(auto)]
 
-ghost use Rattle.std.specs.Prelude.{◌⊎◌, ◌≡◌, ◌+◌, ◌*◌, ◌<◌, ◌≤◌, ℕ, [], All, length, map};
+ghost use Rattle.std.specs.Prelude.{◌⊎◌, ◌≡◌, ◌+◌, ◌*◌, ◌<◌, ◌≤◌, ℕ, List, Option, length, map};
 ghost use Rattle.std.specs.Prelude.{slice_index, slice_index_or};
 ghost use Rattle.std.specs.Bool.{OnTrue, OnFalse};
 ghost use Rattle.mf_code.specs.Rows.{column, list_of, weighted_lists};
@@ -21,15 +22,23 @@ ghost use Rattle.mf_shape.specs.Stages.{parities_at};
 ghost use Rattle.mf_check.specs.Families.{ArePoints, IsFamily, IsStageDecodable};
 ghost use Rattle.mf_kernel.specs.Dots.{dot};
 ghost use Rattle.mf_merge.specs.Merged.{merged_byte};
-ghost use Rattle.morph_codes.specs.Handed.{bytes_of, rooms_of, HaveColumns, RoomsFit};
+ghost use Rattle.mf_matrix.specs.Tables.{HasInverse};
+ghost use Rattle.mf_erasure.specs.Erasure.{entry, IsErasure};
+ghost use Rattle.mf_decode.specs.Rows.{IsDecodingRow};
+ghost use Rattle.morph_codes.specs.Handed.{bytes_of, rooms_of, plan_of};
+ghost use Rattle.morph_codes.specs.Handed.{HaveColumns, HasLost, RoomsFit};
 
+mod decoding;
 mod encoding;
 mod handed;
 
+use decoding::row_of;
 use encoding::fill_rooms;
 pub use handed::{Piece, Room};
 use handed::{fit, have};
 use mf_check::{FamilyFault, check};
+use mf_decode::NoPlan;
+use mf_erasure::is_erasure;
 use mf_kernel::{fill_powers, fill_row};
 use mf_shape::{MAX_PARITIES, MAX_SERVERS, MAX_WIDTH, Shape, Stage};
 use std::alloc::Global;
@@ -162,6 +171,61 @@ pub extern "C" fn morph_codes_combine(
         return LENGTH;
     }
     fill_row(row, pieces, start, out);
+    DONE
+}
+
+/// Fills `row` with the coefficients by which the e-th lost piece is had from what is left of a
+/// stripe of `count` pieces that has lost these: first those of the parities that are had, and then
+/// those of the other pieces, each in order. Memory may run out.
+#[unsafe(no_mangle)]
+pub extern "C" fn morph_codes_decode_row(
+    alloc: Global,
+    points: &[u8],
+    count: u32,
+    lost: &[u32],
+    had: &[u32],
+    e: u32,
+    row: &mut [u8],
+) -> u32
+    ensures done { result ≡ 0
+        → IsDecodingRow (plan_of points.now count lost.now had.now) e count row.new }
+    ensures refused { 1 ≤ result → row.new ≡ row.old }
+    ensures width { result ≡ 1 → (count < 1) ⊎ (64 < count) }
+    ensures count { result ≡ 2 → IsErasure count (length points.now) lost.now had.now
+        → e < length lost.now → length row.old ≡ count
+        → (pieces : List (Option (List ℕ))) → HasLost count lost.now pieces → ⊥ }
+    ensures points { result ≡ 4 → (length points.now < 1) ⊎ (4 < length points.now) }
+    ensures undecodable { result ≡ 5
+        → HasInverse (length lost.now) (entry points.now lost.now had.now) → ⊥ }
+    ensures known { (result ≤ 2) ⊎ ((4 ≤ result) × (result ≤ 6)) }
+{
+    if count == 0 || count > MAX_WIDTH {
+        return WIDTH;
+    }
+    if points.is_empty() || points.len() > MAX_PARITIES as usize {
+        return POINTS;
+    }
+    if !is_erasure(count, points.len() as u32, lost, had) || e as usize >= lost.len() {
+        return COUNT;
+    }
+    match row_of(alloc, points, count, lost, had, e) {
+        Ok(made) => put_row(&made, row),
+        Err(NoPlan::Kernel(_)) => UNDECODABLE,
+        Err(NoPlan::Memory) => MEMORY,
+    }
+}
+
+// Writes a row, where there is room for just that.
+fn put_row(made: &[u8], row: &mut [u8]) -> u32
+    ensures done { result ≡ 0 → row.new ≡ made.now }
+    ensures refused { 1 ≤ result → row.new ≡ row.old }
+    ensures count { result ≡ 2 → length made.now ≡ length row.old → ⊥ }
+    ensures known { (result ≡ 0) ⊎ (result ≡ 2) }
+{
+    if made.len() != row.len() {
+        return COUNT;
+    }
+    row.copy_from_slice(made);
     DONE
 }
 

@@ -4,7 +4,10 @@ use Rattle.morph_codes.proofs.Rooms.{room_at, room_more, IsMade, no_room}
 use Rattle.morph_codes.proofs.encoding.fill_columns.Goals as goal
 
 pub loop-p-init : goal.loop-p-init
-loop-p-init c = (c.requires.count, λ q lt. (c.requires.sizes q lt, c.requires.so_far q lt, λ below. absurd (omega arith)))
+loop-p-init c = (
+  c.requires.count,
+  λ q lt. (c.requires.sizes q lt, c.requires.so_far q lt, λ below. absurd (omega arith)),
+)
 
 pub fill_room-requires-clause-within : goal.fill_room-requires-clause-within
 fill_room-requires-clause-within c =

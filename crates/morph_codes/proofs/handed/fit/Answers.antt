@@ -12,7 +12,8 @@ loop-room-preserved c i lt = elim (cases_lt i c.loop-room.room-index) [
       let a = c.args in
       let same : i ≡ c.loop-room.room-index = omega arith in
       let here = room_at a.rooms.now c.loop-room.room-index c.room-item.result [] (omega arith) in
-      subst (λ (n : ℕ). length (get_or (rooms_of a.rooms.now) n []) ≡ a.size) (sym same) (ap length here ∙ ap (λ (r : Room). length r.bytes.now) (sym c.room-item.is) ∙ c.if-room-size.false)
+      subst (λ (n : ℕ). length (get_or (rooms_of a.rooms.now) n []) ≡ a.size) (sym same)
+      (ap length here ∙ ap (λ (r : Room). length r.bytes.now) (sym c.room-item.is) ∙ c.if-room-size.false)
 ]
 
 pub returns-then-room-size-clause-no : goal.returns-then-room-size-clause-no

@@ -20,7 +20,8 @@ loop-piece-preserved c i lt = elim (cases_lt i c.loop-piece.piece-index) [
       let long = c.if-not-has.ensures.yes in
       let here = piece_at a.pieces.now c.loop-piece.piece-index no_piece [] (omega arith) in
       let one = ap length here in
-      subst (λ (n : ℕ). a.start + a.count ≤ length (get_or (bytes_of a.pieces.now) n [])) (sym same) (omega (arith, long, one))
+      subst (λ (n : ℕ). a.start + a.count ≤ length (get_or (bytes_of a.pieces.now) n [])) (sym same)
+      (omega (arith, long, one))
 ]
 
 pub returns-clause-yes : goal.returns-clause-yes

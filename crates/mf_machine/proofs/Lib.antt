@@ -13,6 +13,7 @@ pub mod Laws
 pub mod Rules
 pub mod Ends
 pub mod Exhibits
+pub mod Idle
 pub mod Totals
 pub mod Entering
 pub mod Deeds

@@ -1,9 +1,9 @@
-use Rattle.mf_machine.proofs.Exhibits as exhibits
+use Rattle.mf_machine.proofs.Idle as idle
 use Rattle.mf_machine.proofs.law.no_rule_is_empty.Goals as goal
 
 pub returns : goal.returns
 returns c = record {
-  rules = exhibits.each_needs;
-  accounted = exhibits.accounted_breaks;
-  caused = exhibits.caused_needs;
+  rules = idle.each_needs;
+  accounted = idle.accounted_breaks;
+  caused = idle.caused_needs;
 }

@@ -64,7 +64,7 @@ fn fit(chunks: &[Chunk], size: u32) -> bool
 }
 
 // The chunks of these bytes.
-fn chunks_of(alloc: Global, rows: &[Vec<u8>]) -> Result<Vec<Chunk>, Memory> {
+pub fn chunks_of(alloc: Global, rows: &[Vec<u8>]) -> Result<Vec<Chunk>, Memory> {
     let mut chunks = Vec::new(alloc);
     for row in rows {
         chunks.push(Chunk::new(alloc, row.clone()?)?)?;

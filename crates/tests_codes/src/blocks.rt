@@ -1,5 +1,5 @@
-//! Blocks of parities and of merged ones, beside plain sums: at both ends of a chunk, across lanes, and of a chunk that
-//! is shorter than a block.
+//! Blocks of parities and of merged ones, beside plain sums: at both ends of a chunk, across lanes,
+//! and of a chunk that is shorter than a block.
 ghost use Rattle.std.specs.Prelude.{◌+◌, ◌≤◌, All, length};
 ghost use Rattle.std.specs.Bool.{OnTrue};
 

@@ -2,7 +2,8 @@
 ghost use Rattle.std.specs.Prelude.{◌≡◌, ◌<◌, ◌≤◌, ℕ, [], length, map, slice_index, slice_index_or};
 ghost use Rattle.mf_code.specs.Rows.{column, weighted_lists};
 ghost use Rattle.mf_code.specs.Sums.{weighted};
-ghost use Rattle.morph_codes.specs.Handed.{bytes_of, rooms_of, HaveColumns, RoomsFit, IsFront, AreFronts};
+ghost use Rattle.morph_codes.specs.Handed.{bytes_of, rooms_of, HaveColumns, RoomsFit};
+ghost use Rattle.morph_codes.specs.Handed.{IsFront, AreFronts};
 
 use crate::handed::{Piece, Room};
 use mf_kernel::fill_powers;

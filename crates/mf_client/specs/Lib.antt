@@ -8,3 +8,4 @@ pub mod Runs
 pub mod Laws
 -- Words of private functions.
 pub mod Steps
+pub mod Hashes

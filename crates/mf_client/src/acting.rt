@@ -1,7 +1,6 @@
 //! Commands on one file.
 
 ghost use Rattle.std.specs.Prelude.{◌≡◌, ◌≤◌, length, drop};
-ghost use Rattle.sha2.specs.Sha256.{sha256};
 ghost use Rattle.mf_machine.specs.declared.answer.Slot.TheVariants.{Work};
 ghost use Rattle.mf_places.specs.Servers.{no_servers};
 ghost use Rattle.mf_script.specs.Contents.{bytes_in};
@@ -10,13 +9,13 @@ ghost use Rattle.mf_client.specs.Acts.{IsCreated, IsReadOut, IsRepaired, IsConve
 ghost use Rattle.mf_client.specs.Acts.{IsReclaimed, IsRemoved, IsHeld, IsReleased};
 
 use crate::done::Outcome;
+use crate::hashing::Hashing;
 use mf_convert::{convert, create, remove};
-use mf_read::{Family, ReadOutcome, read};
+use mf_read::{Family, IntoOutcome, PlanCache, read_into};
 use mf_reclaim::reclaim;
 use mf_repair::repair;
 use mf_script::{Content, content_bytes};
 use mf_vault::{Fetch, Pinned, Slot};
-use sha2::{Digest, Sha256};
 use std::alloc::Global;
 
 // Creates the file of this content.
@@ -39,30 +38,27 @@ pub(crate) fn create_file<A: Fetch>(
     }
 }
 
-// The SHA-256 of the bytes.
-fn digest_of(bytes: &[u8]) -> [u8; 32]
-    ensures { result ≡ sha256 bytes.now }
-{
-    let mut hasher = Sha256::new();
-    hasher.update(bytes);
-    hasher.finalize()
-}
-
 // Reads the file.
-pub(crate) fn read_file<A: Fetch>(alloc: Global, access: &mut A, family: &Family) -> Outcome
+pub(crate) fn read_file<A: Fetch>(
+    alloc: Global,
+    access: &mut A,
+    family: &Family,
+    plans: &mut PlanCache,
+) -> Outcome
     requires idle { IsIdle (A.actor access.old) }
     requires family { IsOfFamily family.now.shape family.now.points
         (A.actor access.old).facts.book }
     ensures { IsReadOut result (A.actor access.old) (A.actor access.new) }
 {
-    match read(alloc, access, family) {
-        ReadOutcome::Bytes { g, bytes, from } => Outcome::Bytes {
+    let mut hashing = Hashing::new();
+    match read_into(alloc, access, family, plans, &mut hashing) {
+        IntoOutcome::Bytes { g, length, from } => Outcome::Bytes {
             g,
-            length: access.book().length(),
+            length,
             from,
-            digest: digest_of(&bytes),
+            digest: hashing.digest(),
         },
-        refused => Outcome::Refused(refused),
+        refused => Outcome::Refused(refused.with_bytes(Vec::new(alloc))),
     }
 }
 

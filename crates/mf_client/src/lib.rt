@@ -5,7 +5,8 @@
 //!
 //! `run_client` answers want of memory before the first command alone; later it is the outcome of
 //! one command, and the next one runs. A `Turnstile` is told of the client before each of its
-//! commands.
+//! commands. A read's bytes are hashed stripe by stripe, and up to 32 plans are kept for those of
+//! which chunks are missing.
 //!
 //! ```text
 //! let done = run_client(alloc, &mut accesses, &script, 1, 1, &Free)?;
@@ -27,6 +28,7 @@ mod acting;
 mod came;
 mod done;
 mod finding;
+mod hashing;
 mod lacks;
 mod laws;
 mod losing;

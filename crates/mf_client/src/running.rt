@@ -23,10 +23,13 @@ use crate::finding::commands_of;
 use crate::losing::lose_server;
 use crate::sweeping::sweep_files;
 use crate::turnstile::Turnstile;
-use mf_read::Family;
+use mf_read::{Family, PlanCache};
 use mf_script::{Act, Command, Content, Script};
 use mf_vault::{Fetch, Memory, Servers};
 use std::alloc::Global;
+
+// How many plans a client keeps for its reads.
+const PLANS: u32 = 32;
 
 // Cuts the servers off in all files.
 fn cut_all<A: Fetch>(accesses: &mut [A], away: Servers)
@@ -42,6 +45,7 @@ fn act_on<A: Fetch>(
     alloc: Global,
     access: &mut A,
     family: &Family,
+    plans: &mut PlanCache,
     content: &Content,
     act: Act,
 ) -> Outcome
@@ -55,7 +59,7 @@ fn act_on<A: Fetch>(
 {
     match act {
         Act::Create(_) => create_file(alloc, access, family, content),
-        Act::Read { .. } => read_file(alloc, access, family),
+        Act::Read { .. } => read_file(alloc, access, family, plans),
         Act::Repair { .. } => repair_file(alloc, access, family),
         Act::Convert { stop, .. } => convert_file(alloc, access, family, stop),
         Act::Reclaim(_) => reclaim_file(alloc, access),
@@ -71,6 +75,7 @@ fn on_file<A: Fetch>(
     alloc: Global,
     access: &mut A,
     family: &Family,
+    plans: &mut PlanCache,
     content: &Content,
     act: Act,
 ) -> Came
@@ -85,7 +90,7 @@ fn on_file<A: Fetch>(
     ensures io { result.io ≡ io_of (gained (A.actor access.old) (A.actor access.new)) }
 {
     let from = access.ledger().len();
-    let outcome = act_on(alloc, access, family, content, act);
+    let outcome = act_on(alloc, access, family, plans, content, act);
     let io = count_from(access.ledger(), from);
     Came {
         outcome,
@@ -99,6 +104,7 @@ fn on_numbered<A: Fetch>(
     alloc: Global,
     accesses: &mut [A],
     script: &Script,
+    plans: &mut PlanCache,
     command: Command,
     file: u32,
 ) -> Came
@@ -113,7 +119,7 @@ fn on_numbered<A: Fetch>(
 {
     let content = &script.files()[file as usize].content;
     let access = &mut accesses[file as usize];
-    on_file(alloc, access, script.family(), content, command.act)
+    on_file(alloc, access, script.family(), plans, content, command.act)
 }
 
 // A sweep, behind the cutting off.
@@ -135,7 +141,13 @@ fn sweep<A: Fetch>(alloc: Global, accesses: &mut [A], script: &Script) -> Came
 }
 
 // A command, behind the cutting off.
-fn act<A: Fetch>(alloc: Global, accesses: &mut [A], script: &Script, command: Command) -> Came
+fn act<A: Fetch>(
+    alloc: Global,
+    accesses: &mut [A],
+    script: &Script,
+    plans: &mut PlanCache,
+    command: Command,
+) -> Came
     requires finds { Finds script.now command (map A.actor accesses.old) }
     requires reached { All (λ (a : Actor). a.cut ≡ away_of command.act) (map A.actor accesses.old) }
     ensures acts { Acts script.now.policy command.line command.act result.outcome
@@ -152,7 +164,7 @@ fn act<A: Fetch>(alloc: Global, accesses: &mut [A], script: &Script, command: Co
         | Act::Reclaim(file)
         | Act::Remove(file)
         | Act::Hold(file)
-        | Act::Release(file) => on_numbered(alloc, accesses, script, command, file),
+        | Act::Release(file) => on_numbered(alloc, accesses, script, plans, command, file),
         Act::Lose(server) => Came {
             outcome: lose_server(alloc, accesses, server, command.line),
             parts: Vec::new(alloc),
@@ -177,6 +189,7 @@ fn run_command<A: Fetch>(
     alloc: Global,
     accesses: &mut [A],
     script: &Script,
+    plans: &mut PlanCache,
     place: Place,
     command: Command,
 ) -> Done
@@ -185,7 +198,7 @@ fn run_command<A: Fetch>(
         (map A.actor accesses.old) (map A.actor accesses.new) }
 {
     cut_all(accesses, away_of(command.act));
-    let came = act(alloc, accesses, script, command);
+    let came = act(alloc, accesses, script, plans, command);
     Done {
         place,
         act: command.act,
@@ -200,8 +213,8 @@ fn run_command<A: Fetch>(
 /// the servers that the command can't reach are cut off in all files.
 ///
 /// The answer has what was done, one entry a command. The only error is want of memory before the
-/// first command; where memory runs out later, that is the outcome of one command, and the next one
-/// follows. What is held stays held.
+/// first command, also for the plans that reads keep; where memory runs out later, that is the
+/// outcome of one command, and the next one follows. What is held stays held.
 pub fn run_client<A: Fetch, T: Turnstile>(
     alloc: Global,
     accesses: &mut [A],
@@ -222,6 +235,7 @@ pub fn run_client<A: Fetch, T: Turnstile>(
 {
     let commands = commands_of(script, phase, client);
     let mut done = Vec::with_capacity(alloc, commands.len())?;
+    let mut plans = PlanCache::new(alloc, PLANS)?;
     for (i, command) in commands.iter().enumerate() {
         let place = Place {
             phase,
@@ -231,7 +245,7 @@ pub fn run_client<A: Fetch, T: Turnstile>(
         turnstile.reached(client, place.command);
         append(
             &mut done,
-            run_command(alloc, accesses, script, place, *command),
+            run_command(alloc, accesses, script, &mut plans, place, *command),
         );
     }
     Ok(done)

@@ -33,7 +33,7 @@ static LOST: [(u32, u32, u64, u64); 8] = [
 ];
 
 // The family of one stage of this width over these points.
-fn family_of(alloc: Global, width: u32, points: &[u8]) -> Option<Family> {
+pub fn family_of(alloc: Global, width: u32, points: &[u8]) -> Option<Family> {
     let stage = Stage {
         width,
         parities: points.len().min(5) as u32,
@@ -46,7 +46,7 @@ fn family_of(alloc: Global, width: u32, points: &[u8]) -> Option<Family> {
 }
 
 // What can be had of the store.
-fn gather_from(alloc: Global, family: &Family, store: &mut Store) -> Gathered
+pub fn gather_from(alloc: Global, family: &Family, store: &mut Store) -> Gathered
     requires points { store.old.points.now ≡ family.now.points }
     requires unbroken { store.old.failure ≡ None }
 {
@@ -67,7 +67,7 @@ fn is_asked(store: &Store, n: u32, place: Place, had: bool) -> bool {
     }
 }
 
-fn is_place(place: Place, wanted: Place) -> bool {
+pub fn is_place(place: Place, wanted: Place) -> bool {
     match (place, wanted) {
         (Place::Piece(t), Place::Piece(u)) => t == u,
         (Place::Parity(p), Place::Parity(q)) => p == q,

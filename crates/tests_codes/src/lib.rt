@@ -17,6 +17,8 @@ mod gatherings;
 #[cfg(test)]
 mod inverses;
 #[cfg(test)]
+mod kept_plans;
+#[cfg(test)]
 mod kernels;
 #[cfg(test)]
 mod matrices;

@@ -28,8 +28,6 @@ mod fetch;
 mod known;
 mod parts;
 mod plain;
-#[cfg(test)]
-mod tests;
 
 pub use access::PlainAccess;
 pub use known::Told;

@@ -36,8 +36,6 @@ mod law;
 mod resting;
 mod seat;
 mod shared;
-#[cfg(test)]
-mod tests;
 
 pub use access::SharedAccess;
 pub use law::a_pin_waits_for_nobody;

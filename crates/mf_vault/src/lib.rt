@@ -28,8 +28,6 @@ mod fetch;
 mod io;
 mod law;
 mod note;
-#[cfg(test)]
-mod tests;
 
 pub use access::Access;
 pub use answers::{Answer, Entry, Got, Op, Pinned, Rest};

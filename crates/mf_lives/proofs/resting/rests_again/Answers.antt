@@ -8,7 +8,7 @@ use Rattle.mf_vault.specs.Answers.{Goes}
 use Rattle.mf_vault.proofs.Doing.{facts_kept}
 use Rattle.mf_shared.specs.Seats.{let_go, view_of}
 use Rattle.mf_shared.proofs.Going.{share_stays}
-use Rattle.mf_shared.proofs.tests.a_file_that_is_not_created_rests_again.Goals as goal
+use Rattle.mf_lives.proofs.resting.rests_again.Goals as goal
 
 begun_share : (b : Bool) (v : View) → (begin_view b v).share ≡ v.share
 begun_share true v = refl

@@ -8,7 +8,7 @@ use Rattle.mf_vault.proofs.Doing.{facts_kept}
 use Rattle.mf_vault.proofs.Entering.{entered, building}
 use Rattle.mf_vault.proofs.Held.{may_publish_removed}
 use Rattle.mf_plain.proofs.Closings.{may_first, close_right, close_hold, hold_at}
-use Rattle.mf_plain.proofs.tests.closings.Goals as goal
+use Rattle.mf_lives.proofs.resting.closings.Goals as goal
 
 pub publish-requires : goal.publish-requires
 publish-requires g c = let e = entered c.if-not-begin.ensures.goes c.in-Absent.ensures.goes in

@@ -4,23 +4,21 @@ ghost use Rattle.mf_plain.specs.Whole.{actor_of};
 ghost use Rattle.mf_lives.specs.Mendings.{HasLine, IsFileOf, RestsOf};
 ghost use Rattle.mf_vault.specs.Conditions.{IsOfFamily};
 
-use crate::stages::STAGES;
-use mf_check::{Family, check};
+use crate::stages::{assert_no_row, family};
+use mf_check::Family;
 use mf_convert::{Change, create, remove};
 use mf_plain::{Plain, PlainAccess};
 use mf_reclaim::{ReclaimOutcome, reclaim};
 use mf_repair::{RepairOutcome, repair};
-use mf_shape::Shape;
 use mf_vault::{Access, Book, Fetch, Io, Losses, Memory, Name, Servers, count_io};
 use std::alloc::Global;
 use std::test::Fail;
 
 // What a repair is to come to. The lost names have the lines 11, 12 and so on, by the servers that
 // lost theirs.
-#[derive(Clone, Copy)]
 enum Wanted {
     Repaired(u32, u32),
-    Lost([(Name, u32); 4]),
+    Lost(&'static [(Name, u32)]),
     Unreachable(Name, u32),
 }
 
@@ -36,7 +34,7 @@ static REPAIRS: [(&[u32], u128, Wanted, [u64; 6]); 8] = [
     (
         &[0, 2, 4, 5],
         0,
-        Wanted::Lost([
+        Wanted::Lost(&[
             (Name::Data(0), 11),
             (Name::Copy(0, 0), 12),
             (Name::Parity(2, 0, 0), 13),
@@ -185,7 +183,7 @@ fn is_wanted(outcome: &RepairOutcome, wanted: &Wanted) -> bool {
                 lost,
             },
             Wanted::Lost(names),
-        ) => { lost.as_slice() == names.as_slice() }
+        ) => { lost.as_slice() == *names }
         (
             RepairOutcome::Unreachable {
                 g: 0,
@@ -213,16 +211,20 @@ fn mended(
     Ok(repaired(alloc, plain, family, &losses, away))
 }
 
+fn first_other(alloc: Global) -> Result<Option<usize>, Memory> {
+    let family = family(alloc)?;
+    for (row, (servers, away, wanted, counts)) in REPAIRS.iter().enumerate() {
+        let (outcome, io) = mended(alloc, &family, servers, Servers { bits: *away })?;
+        if !is_wanted(&outcome, wanted) || numbers(io) != *counts {
+            return Ok(Some(row));
+        }
+    }
+    Ok(None)
+}
+
 #[test]
 fn repairs_by_what_is_lost_and_away(rt: HostRuntime) -> Result<(), Fail> {
-    let alloc = rt.alloc();
-    let shape = Shape::new(alloc, &STAGES, 6)?;
-    let family = check(alloc, &shape, &[1, 2])?;
-    for (servers, away, wanted, counts) in REPAIRS {
-        let (outcome, io) = mended(alloc, &family, servers, Servers { bits: away })?;
-        assert!(rt; is_wanted(&outcome, &wanted), "{outcome:?}");
-        assert_eq!(rt; numbers(io), counts);
-    }
+    assert_no_row(&rt, first_other(rt.alloc())?);
     Ok(())
 }
 
@@ -258,31 +260,40 @@ fn reclaimed(alloc: Global, plain: Plain, losses: &Losses) -> (Plain, [usize; 4]
     (rest(access), [closed, dropped, pinned, entries])
 }
 
+fn absent_reclaimed(alloc: Global, family: &Family, losses: &Losses) -> Result<[usize; 4], Memory>
+    requires { losses.now ≡ [] }
+{
+    let plain = file(alloc, family, b"abcd")?;
+    Ok(reclaimed(alloc, plain, losses).1)
+}
+
+// The same of a file that is created; then it is removed, and reclaimed twice.
+fn removed_reclaimed(
+    alloc: Global,
+    family: &Family,
+    losses: &Losses,
+) -> Result<[[usize; 4]; 3], Memory>
+    requires { losses.now ≡ [] }
+{
+    let plain = file(alloc, family, b"abcd")?;
+    let plain = created(alloc, plain, family, b"abcd", losses);
+    let (plain, first) = reclaimed(alloc, plain, losses);
+    let (plain, done) = removed(alloc, plain, losses);
+    if !done {
+        return Ok([[300; 4]; 3]);
+    }
+    let (plain, second) = reclaimed(alloc, plain, losses);
+    let (_, third) = reclaimed(alloc, plain, losses);
+    Ok([first, second, third])
+}
+
 // Of the fourteen names two are unborn: the parities of the second generation.
 #[test]
 fn reclaims_what_only_closed_generations_hold(rt: HostRuntime) -> Result<(), Fail> {
-    let alloc = rt.alloc();
-    let shape = Shape::new(alloc, &STAGES, 6)?;
-    let family = check(alloc, &shape, &[1, 2])?;
-    let losses = Losses::new(alloc);
-    let (plain, said) = reclaimed(alloc, file(alloc, &family, b"abcd")?, &losses);
-    assert_eq!(rt; said, [100, 100, 100, 0]);
-    drop(plain);
-    let plain = created(
-        alloc,
-        file(alloc, &family, b"abcd")?,
-        &family,
-        b"abcd",
-        &losses,
-    );
-    let (plain, said) = reclaimed(alloc, plain, &losses);
-    assert_eq!(rt; said, [0, 0, 0, 0]);
-    let (plain, done) = removed(alloc, plain, &losses);
-    assert!(rt; done);
-    let (plain, said) = reclaimed(alloc, plain, &losses);
-    assert_eq!(rt; said, [2, 12, 0, 16]);
-    let (plain, said) = reclaimed(alloc, plain, &losses);
-    assert_eq!(rt; said, [0, 0, 0, 16]);
-    drop(plain);
+    let family = family(rt.alloc())?;
+    let losses = Losses::new(rt.alloc());
+    assert!(rt; absent_reclaimed(rt.alloc(), &family, &losses)? == [100, 100, 100, 0]);
+    let said = removed_reclaimed(rt.alloc(), &family, &losses)?;
+    assert!(rt; said == [[0, 0, 0, 0], [2, 12, 0, 16], [0, 0, 0, 16]]);
     Ok(())
 }

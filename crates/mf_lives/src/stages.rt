@@ -5,7 +5,7 @@ use mf_vault::Memory;
 use std::alloc::{AllocError, Global};
 use std::process::Abort;
 
-pub(crate) const STAGES: [Stage; 2] = [
+const STAGES: [Stage; 2] = [
     Stage {
         width: 2,
         parities: 2,

@@ -6,14 +6,13 @@ ghost use Rattle.mf_vault.specs.May.{MayLose};
 ghost use Rattle.mf_lives.specs.Mendings.{HasLine};
 ghost use Rattle.mf_lives.specs.Turns.{Follows, IsAble};
 
-use crate::stages::STAGES;
-use mf_check::{Family, check};
+use crate::stages::family;
+use mf_check::Family;
 use mf_convert::{Change, convert, create, remove};
 use mf_plain::{Plain, PlainAccess};
 use mf_read::{ReadOutcome, read};
 use mf_reclaim::{ReclaimOutcome, reclaim};
 use mf_repair::{RepairOutcome, repair};
-use mf_shape::Shape;
 use mf_shared::{Shared, SharedAccess};
 use mf_vault::{Access, Book, Fetch, Losses, Memory, Name, Pinned, Servers, Slot};
 use std::alloc::{AllocError, Global};
@@ -37,7 +36,7 @@ pub(crate) enum Turn {
 // What comes of it. A read says from which generation and from how many chunks; a reclaim how many
 // generations were closed, how many names dropped, and how many generations have pins. A repair
 // that mends nothing is told as a change.
-#[derive(Clone, Copy, Debug, PartialEq, Eq)]
+#[derive(Clone, Copy, PartialEq, Eq)]
 pub(crate) enum Came {
     Changed(Change),
     Read(u32, u32),
@@ -372,18 +371,33 @@ fn by_shares<R: Wait>(
     Ok((went, plain.published(), count))
 }
 
+// The only actor takes the turns.
+fn alone_of(alloc: Global, losses: &Losses) -> Result<(Option<usize>, u32, usize), Memory>
+    requires { HasLine losses.now 11 0 }
+{
+    let family = family(alloc)?;
+    let plain = file(alloc, &family, b"abcd")?;
+    alone(alloc, plain, 7, losses, &family, b"abcd")
+}
+
+// Two actors take the turns.
+fn shared_of<R: Wait>(
+    rt: &R,
+    alloc: Global,
+    losses: &Losses,
+) -> Result<(Option<usize>, u32, usize), Memory>
+    requires { HasLine losses.now 11 0 }
+{
+    let family = family(alloc)?;
+    let plain = file(alloc, &family, b"abcd")?;
+    by_shares(rt, alloc, plain, 7, losses, &family, b"abcd")
+}
+
 #[test]
 fn two_actors_and_the_only_one_take_the_same_turns(rt: HostRuntime) -> Result<(), Fail> {
-    let alloc = rt.alloc();
-    let shape = Shape::new(alloc, &STAGES, 6)?;
-    let family = check(alloc, &shape, &[1, 2])?;
-    let mut losses = Losses::new(alloc);
+    let mut losses = Losses::new(rt.alloc());
     losses.push(11, 0)?;
-    let plain = file(alloc, &family, b"abcd")?;
-    let other = file(alloc, &family, b"abcd")?;
-    let by_one = alone(alloc, plain, 7, &losses, &family, b"abcd")?;
-    assert_eq!(rt; by_one, (None, 3, 89));
-    let by_two = by_shares(&rt, alloc, other, 7, &losses, &family, b"abcd")?;
-    assert_eq!(rt; by_two, (None, 3, 89));
+    assert!(rt; alone_of(rt.alloc(), &losses)? == (None, 3, 89));
+    assert!(rt; shared_of(&rt, rt.alloc(), &losses)? == (None, 3, 89));
     Ok(())
 }

@@ -5,3 +5,4 @@ pub mod LineWordLemmas
 pub mod CommandLemmas
 pub mod AgeLemmas
 pub mod FormLemmas
+pub mod NameLemmas

@@ -3,4 +3,5 @@ pub mod Words
 pub mod Meaning
 pub mod Lines
 pub mod LineTexts
+pub mod FaultTexts
 pub mod Drafts

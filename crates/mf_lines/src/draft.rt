@@ -183,7 +183,7 @@ impl Draft {
             }
             Form::Policy(policy) => self.policy = Some(policy),
             Form::File(file) => {
-                let name = Vec::from_slice(alloc, file.name.as_slice())?;
+                let name = Vec::from_slice(alloc, file.name.as_str().as_bytes())?;
                 self.names.insert(name)?;
                 self.files.push(file)?;
                 self.file_families.push(FIRST_FAMILY)?;

@@ -1,6 +1,7 @@
 //! File lines.
 
-ghost use Rattle.std.specs.Prelude.{◌≡◌, IfOk};
+ghost use Rattle.std.specs.Prelude.{◌≡◌, true, IfOk};
+ghost use Rattle.mf_lines.specs.Names.{is_name};
 ghost use Rattle.mf_lines.specs.Words.{behind};
 ghost use Rattle.mf_lines.specs.Lines.{Says, within, content_length, starts_high, file_limits};
 ghost use Rattle.mf_lines.specs.Lines.{text_in, hex_in, pattern_in, content_in, file_form};
@@ -9,7 +10,7 @@ ghost use Rattle.mf_lines.specs.Drafts.{so_in, IsDraft};
 use crate::draft::Draft;
 use crate::forms::{Form, within};
 use crate::names::is_name;
-use crate::parts::{Bytes, Content, FileLine, Kind, LimitName};
+use crate::parts::{Bytes, Content, FileLine, FileName, Kind, LimitName};
 use crate::words::{
     ContentWord, content_word, end_words, last_two_words, last_word, next_word, small, spelled,
 };
@@ -122,6 +123,15 @@ fn file_limits(draft: &Draft, name: &[u8], content: &Content) -> Result<(), Kind
     ])
 }
 
+// The name that these bytes are.
+fn file_name(alloc: Global, bytes: &[u8]) -> Result<FileName, AllocError>
+    requires { is_name bytes.now ≡ true }
+    ensures { IfOk result (λ name. name ≡ bytes.now) }
+{
+    let text = String::from_utf8(Vec::from_slice(alloc, bytes)?).unwrap();
+    Ok(FileName::new(text))
+}
+
 /// What a file line says, by what stands behind its first word.
 pub fn file_line(alloc: Global, draft: &Draft, rest: Option<&[u8]>) -> Result<Form, Kind>
     requires { IsDraft draft.now }
@@ -135,6 +145,6 @@ pub fn file_line(alloc: Global, draft: &Draft, rest: Option<&[u8]>) -> Result<Fo
     if draft.has_file(name) {
         return Err(Kind::Twice);
     }
-    let name = copied(alloc, name)?;
+    let name = file_name(alloc, name)?;
     Ok(Form::File(FileLine { name, content }))
 }

@@ -18,6 +18,7 @@
 
 mod ages;
 mod draft;
+mod faults;
 mod files;
 mod forms;
 mod names;
@@ -29,8 +30,8 @@ pub use draft::Draft;
 pub use forms::Form;
 pub use names::is_name;
 pub use parts::{
-    Act, Bytes, Client, Clients, Command, Commands, Content, FileLine, Item, Kind, LimitName,
-    ScriptFault,
+    Act, Bytes, Client, Clients, Command, Commands, Content, FileLine, FileName, Item, Kind,
+    LimitName, ScriptFault,
 };
-pub use texts::{name_of, push_act};
+pub use texts::{ActText, name_of};
 pub use words::{ContentWord, LineWord, Verb};

@@ -132,10 +132,44 @@ pub enum Content {
     Pattern { length: u32, start: u32 },
 }
 
+/// The name of a file, as text.
+#[derive(Debug, Drop)]
+pub struct FileName {
+    text: String,
+}
+
+impl Model for FileName {
+    ghost use Rattle.std.specs.Prelude.{List, ℕ};
+    ghost use Rattle.std.specs.String.{string_bytes};
+
+    ghost Value = { List ℕ };
+
+    ghost view = { λ name. string_bytes name.text };
+}
+
+impl FileName {
+    ghost use Rattle.std.specs.Prelude.{◌≡◌};
+    ghost use Rattle.std.specs.String.{string_bytes};
+
+    /// The name of this text.
+    pub fn new(text: String) -> FileName
+        ensures { result ≡ string_bytes text }
+    {
+        FileName { text }
+    }
+
+    /// The text.
+    pub fn as_str(&self) -> &str
+        ensures { result.now ≡ self.now }
+    {
+        self.text.as_str()
+    }
+}
+
 /// A file: its name and its bytes.
 #[derive(Drop)]
 pub struct FileLine {
-    pub name: Bytes,
+    pub name: FileName,
     pub content: Content,
 }
 

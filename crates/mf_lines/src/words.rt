@@ -30,20 +30,20 @@ pub enum Verb {
 
 impl Verb {
     /// How the word is spelled.
-    pub fn text(self) -> &'static [u8]
+    pub fn text(self) -> &'static str
         ensures { result.now ≡ verb_text self }
     {
         match self {
-            Verb::Create => b"create",
-            Verb::Read => b"read",
-            Verb::Hold => b"hold",
-            Verb::Release => b"release",
-            Verb::Repair => b"repair",
-            Verb::Convert => b"convert",
-            Verb::Reclaim => b"reclaim",
-            Verb::Remove => b"remove",
-            Verb::Lose => b"lose",
-            Verb::Sweep => b"sweep",
+            Verb::Create => "create",
+            Verb::Read => "read",
+            Verb::Hold => "hold",
+            Verb::Release => "release",
+            Verb::Repair => "repair",
+            Verb::Convert => "convert",
+            Verb::Reclaim => "reclaim",
+            Verb::Remove => "remove",
+            Verb::Lose => "lose",
+            Verb::Sweep => "sweep",
         }
     }
 }
@@ -93,23 +93,23 @@ const LINE_WORDS: [LineWord; 22] = [
 
 impl LineWord {
     /// How the word is spelled.
-    pub fn text(self) -> &'static [u8]
+    pub fn text(self) -> &'static str
         ensures { result.now ≡ word_text self }
     {
         match self {
-            LineWord::Morph => b"morph",
-            LineWord::Servers => b"servers",
-            LineWord::Chunk => b"chunk",
-            LineWord::Points => b"points",
-            LineWord::Stage => b"stage",
-            LineWord::Policy => b"policy",
-            LineWord::File => b"file",
-            LineWord::Tick => b"tick",
-            LineWord::Phase => b"phase",
-            LineWord::Client => b"client",
+            LineWord::Morph => "morph",
+            LineWord::Servers => "servers",
+            LineWord::Chunk => "chunk",
+            LineWord::Points => "points",
+            LineWord::Stage => "stage",
+            LineWord::Policy => "policy",
+            LineWord::File => "file",
+            LineWord::Tick => "tick",
+            LineWord::Phase => "phase",
+            LineWord::Client => "client",
             LineWord::Command(verb) => verb.text(),
-            LineWord::Dump => b"dump",
-            LineWord::End => b"end",
+            LineWord::Dump => "dump",
+            LineWord::End => "end",
         }
     }
 }
@@ -120,7 +120,7 @@ pub fn line_word(bytes: &[u8]) -> Option<LineWord>
     ensures { result ≡ word_of bytes.now }
 {
     for word in &LINE_WORDS {
-        if bytes == word.text() {
+        if bytes == word.text().as_bytes() {
             return Some(*word);
         }
     }
@@ -145,14 +145,14 @@ const CONTENT_WORDS: [ContentWord; 4] = [
 
 impl ContentWord {
     /// How the word is spelled.
-    pub fn text(self) -> &'static [u8]
+    pub fn text(self) -> &'static str
         ensures { result.now ≡ content_text self }
     {
         match self {
-            ContentWord::Empty => b"empty",
-            ContentWord::Text => b"text",
-            ContentWord::Hex => b"hex",
-            ContentWord::Pattern => b"pattern",
+            ContentWord::Empty => "empty",
+            ContentWord::Text => "text",
+            ContentWord::Hex => "hex",
+            ContentWord::Pattern => "pattern",
         }
     }
 }
@@ -163,7 +163,7 @@ pub fn content_word(bytes: &[u8]) -> Option<ContentWord>
     ensures { result ≡ content_word_of bytes.now }
 {
     for word in &CONTENT_WORDS {
-        if bytes == word.text() {
+        if bytes == word.text().as_bytes() {
             return Some(*word);
         }
     }

@@ -40,8 +40,8 @@ mod seeds;
 
 pub use contents::content_bytes;
 pub use mf_lines::{
-    Act, Bytes, Client, Clients, Command, Commands, Content, FileLine, Item, Kind, LimitName,
-    ScriptFault, is_name, name_of, push_act,
+    Act, ActText, Bytes, Client, Clients, Command, Commands, Content, FileLine, FileName, Item,
+    Kind, LimitName, ScriptFault, is_name, name_of,
 };
 pub use printing::print_script;
 pub use reading::read_script;

@@ -16,7 +16,7 @@ ghost use Rattle.mf_script.specs.Scripts.{block_of, script_with, IsScript};
 
 use crate::script::{NamedFamily, Script};
 use mf_lines::{
-    Act, Client, Command, Content, ContentWord, FileLine, Item, LineWord, name_of, push_act,
+    Act, ActText, Client, Command, Content, ContentWord, FileLine, Item, LineWord, name_of,
 };
 use mf_policy::Policy;
 use mf_shape::Stage;
@@ -28,7 +28,7 @@ fn begin(out: &mut Vec<u8>, word: LineWord) -> Result<(), AllocError>
     ensures { OnOk result (out.new.items ≡ out.old.items ++ 10 ∷ word_text word) }
 {
     out.push(b'\n')?;
-    out.extend_from_slice(word.text())
+    out.extend_from_slice(word.text().as_bytes())
 }
 
 // A space, and a word.
@@ -116,20 +116,20 @@ fn push_file(out: &mut Vec<u8>, file: &FileLine) -> Result<(), AllocError>
     ensures { OnOk result (out.new.items ≡ out.old.items ++ next_line [] (says.File file.now)) }
 {
     begin(out, LineWord::File)?;
-    push_word(out, file.name.as_slice())?;
+    push_word(out, file.name.as_str().as_bytes())?;
     match &file.content {
-        Content::Empty => push_word(out, ContentWord::Empty.text()),
+        Content::Empty => push_word(out, ContentWord::Empty.text().as_bytes()),
         Content::Text(bytes) => {
-            push_word(out, ContentWord::Text.text())?;
+            push_word(out, ContentWord::Text.text().as_bytes())?;
             push_word(out, bytes.as_slice())
         }
         Content::Hex(bytes) => {
-            push_word(out, ContentWord::Hex.text())?;
+            push_word(out, ContentWord::Hex.text().as_bytes())?;
             out.push(b' ')?;
             push_hex(out, bytes.as_slice())
         }
         Content::Pattern { length, start } => {
-            push_word(out, ContentWord::Pattern.text())?;
+            push_word(out, ContentWord::Pattern.text().as_bytes())?;
             push_number(out, u64::from(*length))?;
             push_number(out, u64::from(*start))
         }
@@ -147,8 +147,9 @@ fn push_command(
     ensures { OnOk result
         (out.new.items ≡ out.old.items ++ next_line (names_in files.now) (says.Command act)) }
 {
+    let text = format!(in alloc; "{}", ActText { files, act })?;
     out.push(b'\n')?;
-    push_act(alloc, out, files, act)
+    out.extend_from_slice(text.as_bytes())
 }
 
 // A dump line.
@@ -158,7 +159,7 @@ fn push_dump(out: &mut Vec<u8>, files: &[FileLine], file: u32) -> Result<(), All
         (out.new.items ≡ out.old.items ++ next_line (names_in files.now) (says.Dump file)) }
 {
     begin(out, LineWord::Dump)?;
-    push_word(out, name_of(files, file))
+    push_word(out, name_of(files, file).as_bytes())
 }
 
 // The lines of the stages.

@@ -15,7 +15,7 @@ returns-in_ok-push-in-File-2-clause-draft c =
     let few = c.requires.draft.files in
     let some = c.requires.draft.commands in
     let room = c.requires.room in
-    let is = c.in_ok-name-in-File.ensures.items ∙ c.as_slice.ensures in
+    let is = c.in_ok-name-in-File.ensures.items ∙ c.as_bytes.ensures.value ∙ c.as_str.ensures in
     let new = subst (IsNew c.args.self.now) c.in-File.is c.requires.new in
     let absent : list_any (λ k. bytes_eq c.in_ok-name-in-File.name.items k.items) c.args.self.now.names.keys ≡ false =
     rw is (sym (list_any-map (bytes_eq c.in-File.file.name) (λ n. n.items) keys)

@@ -6,6 +6,7 @@ pub mod Sweeps
 pub mod Acts
 pub mod Runs
 pub mod Laws
+pub mod Texts
 -- Words of private functions.
 pub mod Steps
 pub mod Hashes

@@ -34,6 +34,7 @@ mod laws;
 mod losing;
 mod running;
 mod sweeping;
+mod texts;
 mod turnstile;
 
 pub use done::{Done, Outcome, Part, Parts, Place};

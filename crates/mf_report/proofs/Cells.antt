@@ -5,13 +5,13 @@ use Rattle.mf_machine.specs.File.Home.{keeps}
 use Rattle.mf_machine.proofs.Words.{cell_is}
 use Rattle.mf_places.specs.Names as names
 use Rattle.mf_places.specs.Placement.{server_of}
+use Rattle.mf_places.specs.Texts.{name_text}
 use Rattle.mf_vault.specs.declared.answers.Rest.{Rest}
 use Rattle.mf_vault.specs.declared.answers.Rest.TheVariants as rest
 use Rattle.mf_vault.specs.Facts.{file, cell}
 use Rattle.mf_vault.specs.Resting.{word_of, home_of}
 use Rattle.mf_plain.specs.Resting.{Resting, AtRest, facts_of}
 use Rattle.mf_report.specs.Lines.{spaced}
-use Rattle.mf_report.specs.Names.{name_text}
 use Rattle.mf_report.specs.Dumps.{rest_text}
 use Rattle.mf_report.specs.Laws.{HereIsDigest}
 

@@ -9,7 +9,7 @@ use Rattle.mf_vault.specs.declared.io.Io.{Io}
 use Rattle.mf_lines.specs.Meaning.{Script, names_in}
 use Rattle.mf_client.specs.declared.done.Done.{Done}
 use Rattle.mf_plain.specs.Resting.{Resting}
-use Rattle.mf_report.specs.Counts.{io_numbers}
+use Rattle.mf_vault.specs.Texts.{io_numbers}
 use Rattle.mf_report.specs.Commands.{part_text}
 use Rattle.mf_report.specs.Dumps.{dumps_lines}
 use Rattle.mf_report.specs.Report.{took, conversions}

@@ -1,7 +1,8 @@
 -- Commands that were done, as they are printed.
 use Rattle.std.specs.Prelude.{ℕ, Bool, true, false, List, ◌++◌, codes}
 use Rattle.std.specs.List.{flat_map}
-use Rattle.mf_text.specs.Decimal.{decimal_text}
+use Rattle.mf_vault.specs.Texts.{io_text}
+use Rattle.mf_convert.specs.Texts.{change_text}
 use Rattle.mf_lines.specs.declared.parts.Act.{Act}
 use Rattle.mf_lines.specs.declared.parts.Act.TheVariants as act
 use Rattle.mf_lines.specs.declared.forms.Form.TheVariants as says
@@ -9,13 +10,8 @@ use Rattle.mf_lines.specs.LineTexts.{name_at, line_text}
 use Rattle.mf_client.specs.declared.done.Place.{Place}
 use Rattle.mf_client.specs.declared.done.Part.{Part}
 use Rattle.mf_client.specs.declared.done.Done.{Done}
-use Rattle.mf_report.specs.Lines.{ended, pointed}
-use Rattle.mf_report.specs.Counts.{io_text}
-use Rattle.mf_report.specs.Outcomes.{change_text, outcome_text}
-
--- phase, client and command, from 1, with points between them
-abbrev pub place_text : Place → List ℕ
-place_text place = decimal_text place.phase ++ pointed place.client ++ pointed place.command
+use Rattle.mf_client.specs.Texts.{place_text, outcome_text}
+use Rattle.mf_report.specs.Lines.{ended}
 
 -- a command as a script has it, where the files have these names
 abbrev pub act_text : List (List ℕ) → Act → List ℕ

@@ -1,16 +1,7 @@
--- Counts of chunk operations: their sums, and their text.
-use Rattle.std.specs.Prelude.{ℕ, ◌^◌, ◌<◌, List, [], ◌∷◌, ◌++◌, codes}
+-- The sums of counts of chunk operations.
+use Rattle.std.specs.Prelude.{◌^◌, ◌<◌, List}
 use Rattle.std.specs.List.{sum_by}
 use Rattle.mf_vault.specs.declared.io.Io.{Io}
-use Rattle.mf_report.specs.Lines.{numbers_text}
-
--- the seven numbers, in the order in which they are printed
-abbrev pub io_numbers : Io → List ℕ
-io_numbers io = io.pieces ∷ io.copies ∷ io.parities ∷ io.misses ∷ io.writes ∷ io.probes ∷ io.drops ∷ []
-
--- the word `io`, and the seven numbers, each behind a space
-abbrev pub io_text : Io → List ℕ
-io_text io = codes "io" ++ numbers_text (io_numbers io)
 
 -- the sums, kind by kind
 abbrev pub total_io : List Io → Io

@@ -7,12 +7,12 @@ use Rattle.sha2.specs.Sha256.{sha256}
 use Rattle.mf_text.specs.Hex.{hex_text}
 use Rattle.mf_places.specs.Names as names
 use Rattle.mf_places.specs.Placement.{server_of}
+use Rattle.mf_places.specs.Texts.{name_text}
 use Rattle.mf_vault.specs.declared.answers.Rest.{Rest}
 use Rattle.mf_vault.specs.declared.answers.Rest.TheVariants as rest
 use Rattle.mf_plain.specs.Resting.{Resting}
 use Rattle.mf_lines.specs.LineTexts.{name_at}
 use Rattle.mf_report.specs.Lines.{ended, spaced}
-use Rattle.mf_report.specs.Names.{name_text}
 
 -- a published number, of so many stages: none, a generation, or that the file is removed
 abbrev pub published_text : ℕ → ℕ → List ℕ

@@ -4,11 +4,11 @@ use Rattle.sha2.specs.Sha256.{sha256}
 use Rattle.mf_text.specs.Hex.{hex_text}
 use Rattle.mf_places.specs.Names as names
 use Rattle.mf_places.specs.Placement.{server_of}
+use Rattle.mf_places.specs.Texts.{name_text}
 use Rattle.mf_vault.specs.declared.answers.Rest.TheVariants as rest
 use Rattle.mf_vault.specs.Facts.{cell}
 use Rattle.mf_plain.specs.Resting.{Resting, AtRest}
 use Rattle.mf_report.specs.Lines.{spaced}
-use Rattle.mf_report.specs.Names.{name_text}
 use Rattle.mf_report.specs.Dumps.{chunk_text}
 
 -- The line of a chunk that is here, of a file at rest, has the digest of the chunk's cell: of the bytes that the plain

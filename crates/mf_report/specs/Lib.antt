@@ -1,13 +1,10 @@
 pub mod Lines
-pub mod Names
 pub mod Counts
-pub mod Outcomes
 pub mod Commands
 pub mod Dumps
 pub mod Laws
 pub mod Report
 pub mod Json
 pub mod Writing
-pub mod Faults
 pub mod Verdicts
 pub mod Summary

@@ -3,12 +3,13 @@
 use Rattle.std.specs.Prelude.{ℕ, List, ◌++◌, codes, map, filter}
 use Rattle.std.specs.List.{flat_map}
 use Rattle.mf_vault.specs.declared.io.Io.{Io}
+use Rattle.mf_vault.specs.Texts.{io_text}
 use Rattle.mf_lines.specs.Meaning.{Script}
 use Rattle.mf_lines.specs.Meaning.{names_in}
 use Rattle.mf_client.specs.declared.done.Done.{Done}
 use Rattle.mf_plain.specs.Resting.{Resting}
 use Rattle.mf_report.specs.Lines.{ended}
-use Rattle.mf_report.specs.Counts.{total_io, io_text}
+use Rattle.mf_report.specs.Counts.{total_io}
 use Rattle.mf_report.specs.Commands.{converts, done_text}
 use Rattle.mf_report.specs.Dumps.{dumps_text}
 

@@ -1,5 +1,5 @@
 -- The line that sums up the run of a seed's script.
-use Rattle.std.specs.Prelude.{ℕ, Bool, true, false, List, [], ◌∷◌, ◌++◌, codes, map, filter, length}
+use Rattle.std.specs.Prelude.{ℕ, Bool, true, false, List, [], ◌∷◌, ◌++◌, codes, decimal, map, filter, length}
 use Rattle.std.specs.List.{flat_map, sum_by}
 use Rattle.sha2.specs.Sha256.{sha256}
 use Rattle.mf_text.specs.Hex.{hex_text}
@@ -58,13 +58,11 @@ conversions done = length (filter is_converted (flat_map changes_of done))
 abbrev pub repairs : List Done → ℕ
 repairs done = sum_by (λ (d : Done). restored_by d.outcome) done
 
--- the numbers of reads
-unfoldable pub reads_text : List Done → List ℕ
-reads_text done = codes " reads" ++ spaced (reads done) ++ codes " lost" ++ spaced (losses done)
-
--- the numbers of changes and repairs
-unfoldable pub changes_text : List Done → List ℕ
-changes_text done = codes " converted" ++ spaced (conversions done) ++ codes " repaired" ++ spaced (repairs done)
+-- the numbers of reads, changes and repairs
+unfoldable pub counts_text : List Done → List ℕ
+counts_text done =
+    (codes " reads " ++ decimal (reads done) ++ codes " lost " ++ decimal (losses done))
+    ++ (codes " converted " ++ decimal (conversions done) ++ codes " repaired " ++ decimal (repairs done))
 
 -- the digest of a text
 unfoldable pub digest_text : List ℕ → List ℕ
@@ -73,5 +71,4 @@ digest_text report = codes " report " ++ hex_text (sha256 report)
 -- the line of seed n, where its script's commands were done so, and their report has this text
 abbrev pub summary_text : ℕ → List Done → List ℕ → List ℕ
 summary_text n done report =
-    ended (codes "seed" ++ spaced n ++ codes " commands" ++ spaced (length done) ++ reads_text done ++ changes_text done
-    ++ digest_text report)
+    ended (codes "seed" ++ spaced n ++ codes " commands" ++ spaced (length done) ++ counts_text done ++ digest_text report)

@@ -5,8 +5,8 @@ use Rattle.mf_shape.specs.declared.Stage.{Stage}
 use Rattle.mf_lines.specs.declared.parts.LimitName.TheVariants as limit
 use Rattle.mf_lines.specs.declared.parts.Kind.TheVariants as kind
 use Rattle.mf_lines.specs.declared.parts.ScriptFault.{ScriptFault}
+use Rattle.mf_lines.specs.FaultTexts.{kind_text}
 use Rattle.mf_report.specs.Lines.{ended, spaced}
-use Rattle.mf_report.specs.Faults.{kind_text}
 
 -- how many lost names of one stripe a stage bears, behind a space
 abbrev pub tolerance_text : Stage → List ℕ

@@ -1,91 +1,124 @@
-//! The dumps of files at rest, written.
+//! The lines of the dumps of files at rest.
 
-ghost use Rattle.std.specs.Prelude.{◌≡◌, ◌++◌, ◌<◌, ◌^◌, length, slice_index_or, IfOk, OnOk};
-ghost use Rattle.std.specs.List.{flat_map, range_with_len, slice_get};
+ghost use Rattle.std.specs.Prelude.{◌≡◌, ◌++◌, ◌<◌, length, map, slice_index_or, IfOk, OnOk};
+ghost use Rattle.std.specs.List.{range_with_len, slice_get};
+ghost use Rattle.std.specs.String.{string_bytes};
+ghost use Rattle.sha2.specs.Sha256.{sha256};
 ghost use Rattle.mf_places.specs.Names.{count_of};
 ghost use Rattle.mf_vault.specs.declared.answers.Rest.TheVariants as rest;
 ghost use Rattle.mf_lines.specs.Meaning.{names_in};
-ghost use Rattle.mf_report.specs.Lines.{ended};
-ghost use Rattle.mf_report.specs.Dumps.{published_text, head_text, generation_text, rest_text};
-ghost use Rattle.mf_report.specs.Dumps.{chunk_text, dump_lines, lines_if, dumps_text};
 ghost use Rattle.mf_lines.specs.LineTexts.{name_at};
+ghost use Rattle.mf_report.specs.Dumps.{generation_text, kept_text, chunk_text};
+ghost use Rattle.mf_report.specs.Dumps.{dump_lines, lines_if, dumps_lines};
 
-use crate::lines::{push_number, push_word};
-use crate::names::push_name;
-use crate::outcomes::digest_of;
+use mf_places::Name;
 use mf_plain::Plain;
 use mf_script::{FileLine, name_of};
-use mf_text::push_hex;
+use mf_text::Hex;
 use mf_vault::Rest;
-use std::alloc::AllocError;
+use sha2::{Digest, Sha256};
+use std::alloc::{AllocError, Global};
+use std::fmt;
 
-/// Writes what is published, of so many stages. Fails only for want of memory.
-pub fn push_published(out: &mut Vec<u8>, stages: u32, number: u32) -> Result<(), AllocError>
-    requires { stages < 2 ^ 31 }
-    ensures { OnOk result (out.new.items ≡ out.old.items ++ published_text stages number) }
+/// The SHA-256 of the bytes.
+pub fn digest_of(bytes: &[u8]) -> [u8; 32]
+    ensures { result ≡ sha256 bytes.now }
 {
-    if number == 0 {
-        out.extend_from_slice(b" none")
-    } else if number == stages + 1 {
-        out.extend_from_slice(b" removed")
-    } else {
-        push_number(out, u64::from(number - 1))
-    }
+    let mut hasher = Sha256::new();
+    hasher.update(bytes);
+    hasher.finalize()
 }
 
-/// Writes the first line of a file's dump, without its end. Fails only for want of memory.
-#[tactic(auto, using(std::proofs::lemmas::List::append_assoc))]
-pub fn push_head(out: &mut Vec<u8>, name: &[u8], plain: &Plain) -> Result<(), AllocError>
-    ensures { OnOk result (out.new.items ≡ out.old.items ++ head_text name.now plain.now) }
-{
-    out.extend_from_slice(b"dump ")?;
-    out.extend_from_slice(name)?;
-    out.extend_from_slice(b" published")?;
-    push_published(out, plain.book().stages(), plain.published())?;
-    push_word(out, b" length", u64::from(plain.book().length()))
+// What is published, of so many stages.
+#[derive(Clone, Copy)]
+struct Published {
+    stages: u32,
+    number: u32,
 }
 
-/// Writes the line of a generation, without its end. Fails only for want of memory.
-#[tactic(auto, using(std::proofs::lemmas::List::append_assoc))]
-pub fn push_generation(out: &mut Vec<u8>, plain: &Plain, g: u32) -> Result<(), AllocError>
-    requires { g < length plain.now.book.shape.stages }
-    ensures { OnOk result (out.new.items ≡ out.old.items ++ generation_text plain.now g) }
-{
-    push_word(out, b"gen", u64::from(g))?;
-    if plain.closed(g) {
-        out.extend_from_slice(b" closed")
-    } else {
-        out.extend_from_slice(b" kept")
-    }
-}
+impl fmt::Display for Published {
+    ghost use Rattle.std.specs.Prelude.{Some};
+    ghost use Rattle.mf_report.specs.Dumps.{published_text};
 
-// The lines of the generations.
-fn push_generations(out: &mut Vec<u8>, plain: &Plain) -> Result<(), AllocError>
-    ensures { OnOk result (out.new.items ≡ out.old.items
-        ++ flat_map (λ g. ended (generation_text plain.now g))
-        (range_with_len 0 (length plain.now.book.shape.stages))) }
-{
-    for g in 0..plain.book().stages() {
-        push_generation(out, plain, g)?;
-        out.push(b'\n')?;
-    }
-    Ok(())
-}
+    ghost output = { λ published. Some (published_text published.stages published.number) };
 
-/// Writes the state of a chunk. Fails only for want of memory.
-#[tactic(auto, using(std::proofs::lemmas::List::append_assoc))]
-pub fn push_rest(out: &mut Vec<u8>, state: &Rest) -> Result<(), AllocError>
-    ensures { OnOk result (out.new.items ≡ out.old.items ++ rest_text state.now) }
-{
-    match state {
-        Rest::Unborn => out.extend_from_slice(b"unborn"),
-        Rest::Here(chunk) => {
-            out.extend_from_slice(b"here ")?;
-            push_hex(out, &digest_of(chunk.bytes()))
+    fn fmt<W: fmt::Write>(&self, f: &mut fmt::Formatter<W>) -> fmt::Result {
+        let number = self.number;
+        if number == 0 {
+            write!(f, " none")
+        } else if u64::from(number) == u64::from(self.stages) + 1 {
+            write!(f, " removed")
+        } else {
+            let g = number - 1;
+            write!(f, " {g}")
         }
-        Rest::Lost(line) => push_word(out, b"lost", u64::from(*line)),
-        Rest::Dropped => out.extend_from_slice(b"dropped"),
     }
+}
+
+// The state of a chunk.
+#[derive(Clone, Copy)]
+struct State<'a> {
+    rest: &'a Rest,
+}
+
+impl fmt::Display for State<'_> {
+    ghost use Rattle.std.specs.Prelude.{Some};
+    ghost use Rattle.mf_report.specs.Dumps.{rest_text};
+
+    ghost output = { λ state. Some (rest_text state.rest.now) };
+
+    fn fmt<W: fmt::Write>(&self, f: &mut fmt::Formatter<W>) -> fmt::Result {
+        match self.rest {
+            Rest::Unborn => write!(f, "unborn"),
+            Rest::Here(chunk) => {
+                let digest = digest_of(chunk.bytes());
+                let digest = Hex { bytes: &digest };
+                write!(f, "here {digest}")
+            }
+            Rest::Lost(line) => write!(f, "lost {line}"),
+            Rest::Dropped => write!(f, "dropped"),
+        }
+    }
+}
+
+// The first line of a file's dump.
+#[derive(Clone, Copy)]
+struct Head<'a> {
+    name: &'a str,
+    plain: &'a Plain,
+}
+
+impl fmt::Display for Head<'_> {
+    ghost use Rattle.std.specs.Prelude.{Some};
+    ghost use Rattle.mf_report.specs.Dumps.{head_text};
+
+    ghost output = { λ head. Some (head_text head.name.now head.plain.now) };
+
+    fn fmt<W: fmt::Write>(&self, f: &mut fmt::Formatter<W>) -> fmt::Result {
+        let name = self.name;
+        let published = Published {
+            stages: self.plain.book().stages(),
+            number: self.plain.published(),
+        };
+        let length = self.plain.book().length();
+        write!(f, "dump {name} published{published} length {length}")
+    }
+}
+
+// Whether a generation is closed, in a word.
+fn kept_word(closed: bool) -> &'static str
+    ensures { result.now ≡ kept_text closed }
+{
+    if closed { " closed" } else { " kept" }
+}
+
+// The line of a generation.
+fn generation_line(alloc: Global, plain: &Plain, g: u32) -> Result<String, AllocError>
+    requires { g < length plain.now.book.shape.stages }
+    ensures { IfOk result (λ line. string_bytes line ≡ generation_text plain.now g) }
+{
+    let kept = kept_word(plain.closed(g));
+    format!(in alloc; "gen {g}{kept}")
 }
 
 // The state of name number n.
@@ -96,75 +129,112 @@ fn rest_of(plain: &Plain, n: u32) -> Result<Rest, AllocError>
     plain.rest(plain.book().name(n))
 }
 
-/// Writes the line of a name, without its end. Fails only for want of memory.
-#[tactic(auto, using(std::proofs::lemmas::List::append_assoc))]
-pub fn push_chunk(out: &mut Vec<u8>, plain: &Plain, n: u32) -> Result<(), AllocError>
-    requires { n < count_of plain.now.book }
-    ensures { OnOk result (out.new.items ≡ out.old.items ++ chunk_text plain.now n) }
-{
-    let name = plain.book().name(n);
-    let state = rest_of(plain, n)?;
-    out.extend_from_slice(b"chunk ")?;
-    push_name(out, name)?;
-    push_word(out, b" server", u64::from(plain.book().server(name)))?;
-    out.push(b' ')?;
-    push_rest(out, &state)
+// The line of a name.
+#[derive(Clone, Copy)]
+struct ChunkLine<'a> {
+    name: Name,
+    server: u32,
+    rest: &'a Rest,
 }
 
-// The lines of the names.
-fn push_chunks(out: &mut Vec<u8>, plain: &Plain) -> Result<(), AllocError>
-    ensures { OnOk result (out.new.items ≡ out.old.items
-        ++ flat_map (λ n. ended (chunk_text plain.now n))
-        (range_with_len 0 (count_of plain.now.book))) }
+impl fmt::Display for ChunkLine<'_> {
+    ghost use Rattle.std.specs.Prelude.{Some, ◌++◌, codes};
+    ghost use Rattle.mf_places.specs.Texts.{name_text};
+    ghost use Rattle.mf_report.specs.Lines.{spaced};
+    ghost use Rattle.mf_report.specs.Dumps.{rest_text};
+
+    ghost output = { λ line. Some (codes "chunk " ++ name_text line.name ++ codes " server"
+        ++ spaced line.server ++ codes " " ++ rest_text line.rest.now) };
+
+    fn fmt<W: fmt::Write>(&self, f: &mut fmt::Formatter<W>) -> fmt::Result {
+        let name = self.name;
+        let server = self.server;
+        let state = State { rest: self.rest };
+        write!(f, "chunk {name} server {server} {state}")
+    }
+}
+
+// The line of name number n.
+fn chunk_line(alloc: Global, plain: &Plain, n: u32) -> Result<String, AllocError>
+    requires { n < count_of plain.now.book }
+    ensures { IfOk result (λ line. string_bytes line ≡ chunk_text plain.now n) }
 {
-    for n in 0..plain.book().count() {
-        push_chunk(out, plain, n)?;
-        out.push(b'\n')?;
+    let name = plain.book().name(n);
+    let server = plain.book().server(name);
+    let rest = &rest_of(plain, n)?;
+    let line = ChunkLine { name, server, rest };
+    format!(in alloc; "{line}")
+}
+
+// Adds the lines of the generations.
+fn add_generations(alloc: Global, lines: &mut Vec<String>, plain: &Plain) -> Result<(), AllocError>
+    ensures { OnOk result (map string_bytes lines.new.items ≡ map string_bytes lines.old.items
+        ++ map (generation_text plain.now)
+        (range_with_len 0 (length plain.now.book.shape.stages))) }
+{
+    for g in 0..plain.book().stages() {
+        lines.push(generation_line(alloc, plain, g)?)?;
     }
     Ok(())
 }
 
-// The dump of a file of this name.
-#[tactic(auto, using(std::proofs::lemmas::List::append_assoc))]
-fn push_dump(out: &mut Vec<u8>, name: &[u8], plain: &Plain) -> Result<(), AllocError>
-    ensures { OnOk result
-        (out.new.items ≡ out.old.items ++ flat_map ended (dump_lines name.now plain.now)) }
+// Adds the lines of the names.
+fn add_chunks(alloc: Global, lines: &mut Vec<String>, plain: &Plain) -> Result<(), AllocError>
+    ensures { OnOk result (map string_bytes lines.new.items ≡ map string_bytes lines.old.items
+        ++ map (chunk_text plain.now) (range_with_len 0 (count_of plain.now.book))) }
 {
-    push_head(out, name, plain)?;
-    out.push(b'\n')?;
-    push_generations(out, plain)?;
-    push_chunks(out, plain)
+    for n in 0..plain.book().count() {
+        lines.push(chunk_line(alloc, plain, n)?)?;
+    }
+    Ok(())
 }
 
-// The dump of file number `file`, if there is one.
-fn push_dump_of(
-    out: &mut Vec<u8>,
+// Adds the dump of a file of this name.
+fn add_dump(
+    alloc: Global,
+    lines: &mut Vec<String>,
+    name: &str,
+    plain: &Plain,
+) -> Result<(), AllocError>
+    ensures { OnOk result (map string_bytes lines.new.items
+        ≡ map string_bytes lines.old.items ++ dump_lines name.now plain.now) }
+{
+    let head = Head { name, plain };
+    lines.push(format!(in alloc; "{head}")?)?;
+    add_generations(alloc, lines, plain)?;
+    add_chunks(alloc, lines, plain)
+}
+
+// Adds the dump of file number `file`, if there is one.
+fn add_dump_of(
+    alloc: Global,
+    lines: &mut Vec<String>,
     names: &[FileLine],
     files: &[Plain],
     file: u32,
 ) -> Result<(), AllocError>
-    ensures { OnOk result (out.new.items ≡ out.old.items
-        ++ flat_map ended
-        (lines_if (name_at (names_in names.now) file) (slice_get files.now file))) }
+    ensures { OnOk result (map string_bytes lines.new.items ≡ map string_bytes lines.old.items
+        ++ lines_if (name_at (names_in names.now) file) (slice_get files.now file)) }
 {
     match files.get(file as usize) {
-        Some(plain) => push_dump(out, name_of(names, file), plain),
+        Some(plain) => add_dump(alloc, lines, name_of(names, file), plain),
         None => Ok(()),
     }
 }
 
-/// Writes the dumps of the files of these numbers, in order. Fails only for want of memory.
-pub fn push_dumps(
-    out: &mut Vec<u8>,
+/// The lines of the dumps of the files of these numbers, in order. Fails only for want of memory.
+pub fn lines_of(
+    alloc: Global,
     names: &[FileLine],
     files: &[Plain],
     dumps: &[u32],
-) -> Result<(), AllocError>
-    ensures { OnOk result (out.new.items ≡ out.old.items
-        ++ dumps_text (names_in names.now) files.now dumps.now) }
+) -> Result<Vec<String>, AllocError>
+    ensures { IfOk result (λ lines. map string_bytes lines.items
+        ≡ dumps_lines (names_in names.now) files.now dumps.now) }
 {
+    let mut lines = Vec::new(alloc);
     for file in dumps {
-        push_dump_of(out, names, files, *file)?;
+        add_dump_of(alloc, &mut lines, names, files, *file)?;
     }
-    Ok(())
+    Ok(lines)
 }

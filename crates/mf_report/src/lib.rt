@@ -26,12 +26,8 @@
 mod commands;
 mod counts;
 mod dumps;
-mod faults;
 mod json;
 mod laws;
-mod lines;
-mod names;
-mod outcomes;
 mod summary;
 mod totals;
 mod verdicts;

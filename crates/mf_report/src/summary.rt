@@ -2,25 +2,26 @@
 
 ghost use Rattle.std.specs.Prelude.{◌≡◌, ◌≤◌, ◌++◌, length, map, IfOk, OnOk};
 ghost use Rattle.std.specs.List.{All, flat_map};
+ghost use Rattle.std.specs.String.{string_bytes};
 ghost use Rattle.mf_client.specs.declared.done.Part.{Part};
 ghost use Rattle.mf_client.specs.declared.done.Done.{Done};
 ghost use Rattle.mf_client.specs.Runs.{IsSmall};
 ghost use Rattle.mf_report.specs.Report.{report_text};
 ghost use Rattle.mf_report.specs.Summary.{had_bytes, had_lost, restored_by, is_converted};
 ghost use Rattle.mf_report.specs.Summary.{changes_of, reads, losses, conversions, repairs};
-ghost use Rattle.mf_report.specs.Summary.{reads_text, changes_text, summary_text};
+ghost use Rattle.mf_report.specs.Summary.{counts_text, summary_text};
 
-use crate::lines::push_word;
-use crate::outcomes::digest_of;
-use crate::writing::report_bytes;
+use crate::dumps::digest_of;
+use crate::writing::text_of;
 use mf_client::{Done, Outcome, Part};
 use mf_convert::Change;
 use mf_plain::Plain;
 use mf_read::ReadOutcome;
 use mf_repair::RepairOutcome;
 use mf_script::Script;
-use mf_text::push_hex;
+use mf_text::Hex;
 use std::alloc::{AllocError, Global};
+use std::fmt;
 
 // Whether a read had its file's bytes.
 fn had_bytes(outcome: &Outcome) -> bool
@@ -101,7 +102,7 @@ fn repairs(done: &[Done]) -> u64
 }
 
 // The changes of parts.
-fn push_parts(changes: &mut Vec<Change>, parts: &[Part]) -> Result<(), AllocError>
+fn add_parts(changes: &mut Vec<Change>, parts: &[Part]) -> Result<(), AllocError>
     ensures { OnOk result (changes.new.items
         ≡ changes.old.items ++ map (λ (part : Part). part.change) parts.now) }
 {
@@ -113,13 +114,13 @@ fn push_parts(changes: &mut Vec<Change>, parts: &[Part]) -> Result<(), AllocErro
 
 // The changes of a command: the one that it made itself, and those of its parts.
 #[tactic(auto, using(std::proofs::lemmas::List::append_assoc))]
-fn push_changes(changes: &mut Vec<Change>, done: &Done) -> Result<(), AllocError>
+fn add_changes(changes: &mut Vec<Change>, done: &Done) -> Result<(), AllocError>
     ensures { OnOk result (changes.new.items ≡ changes.old.items ++ changes_of done.now) }
 {
     if let Outcome::Change(change) = &done.outcome {
         changes.push(*change)?;
     }
-    push_parts(changes, done.parts.as_slice())
+    add_parts(changes, done.parts.as_slice())
 }
 
 // The changes of the commands.
@@ -128,7 +129,7 @@ fn changes_of(alloc: Global, done: &[Done]) -> Result<Vec<Change>, AllocError>
 {
     let mut changes = Vec::new(alloc);
     for command in done {
-        push_changes(&mut changes, command)?;
+        add_changes(&mut changes, command)?;
     }
     Ok(changes)
 }
@@ -147,17 +148,45 @@ fn conversions(alloc: Global, done: &[Done]) -> Result<usize, AllocError>
 }
 
 // The numbers of reads, changes and repairs.
-#[tactic(auto, unfolding(crate::specs::Summary::reads_text, crate::specs::Summary::changes_text), using(std::proofs::lemmas::List::append_assoc))]
-fn push_counts(alloc: Global, out: &mut Vec<u8>, done: &[Done]) -> Result<(), AllocError>
+#[derive(Clone, Copy)]
+struct Counts {
+    reads: usize,
+    lost: usize,
+    converted: usize,
+    repaired: u64,
+}
+
+impl fmt::Display for Counts {
+    ghost use Rattle.std.specs.Prelude.{Some, ◌++◌, codes, decimal};
+
+    ghost output = { λ counts. Some
+        ((codes " reads " ++ decimal counts.reads ++ codes " lost " ++ decimal counts.lost)
+        ++ (codes " converted " ++ decimal counts.converted
+        ++ codes " repaired " ++ decimal counts.repaired)) };
+
+    fn fmt<W: fmt::Write>(&self, f: &mut fmt::Formatter<W>) -> fmt::Result {
+        let reads = self.reads;
+        let lost = self.lost;
+        let converted = self.converted;
+        let repaired = self.repaired;
+        write!(f, " reads {reads} lost {lost}")?;
+        write!(f, " converted {converted} repaired {repaired}")
+    }
+}
+
+// Their text.
+#[tactic(auto, unfolding(crate::specs::Summary::counts_text))]
+fn counts_line(alloc: Global, done: &[Done]) -> Result<String, AllocError>
     requires { length done.now ≤ 4096 }
-    ensures { OnOk result
-        (out.new.items ≡ out.old.items ++ reads_text done.now ++ changes_text done.now) }
+    ensures { IfOk result (λ text. string_bytes text ≡ counts_text done.now) }
 {
-    let converted = conversions(alloc, done)?;
-    push_word(out, b" reads", reads(done) as u64)?;
-    push_word(out, b" lost", losses(done) as u64)?;
-    push_word(out, b" converted", converted as u64)?;
-    push_word(out, b" repaired", repairs(done))
+    let counts = Counts {
+        reads: reads(done),
+        lost: losses(done),
+        converted: conversions(alloc, done)?,
+        repaired: repairs(done),
+    };
+    format!(in alloc; "{counts}")
 }
 
 // The line, where the report has this text.
@@ -166,14 +195,12 @@ fn line(alloc: Global, n: u64, done: &[Done], report: &[u8]) -> Result<Vec<u8>, 
     requires { length done.now ≤ 4096 }
     ensures { IfOk result (λ line. line.items ≡ summary_text n done.now report.now) }
 {
-    let mut out = Vec::new(alloc);
-    push_word(&mut out, b"seed", n)?;
-    push_word(&mut out, b" commands", done.len() as u64)?;
-    push_counts(alloc, &mut out, done)?;
-    out.extend_from_slice(b" report ")?;
-    push_hex(&mut out, &digest_of(report))?;
-    out.push(b'\n')?;
-    Ok(out)
+    let commands = done.len();
+    let counts = counts_line(alloc, done)?;
+    let digest = digest_of(report);
+    let digest = Hex { bytes: &digest };
+    let text = format!(in alloc; "seed {n} commands {commands}{counts} report {digest}\n")?;
+    Ok(text.into_bytes())
 }
 
 /// The line of seed n, where these commands of its script were done and left these files: the
@@ -192,6 +219,6 @@ pub fn summary_line(
     ensures { IfOk result (λ line. line.items
         ≡ summary_text n done.now (report_text script.now done.now files.now)) }
 {
-    let report = report_bytes(alloc, script, done, files)?;
-    line(alloc, n, done, &report)
+    let report = text_of(alloc, script, done, files)?;
+    line(alloc, n, done, report.as_bytes())
 }

@@ -2,24 +2,25 @@
 
 ghost use Rattle.std.specs.Prelude.{◌≡◌, ◌++◌, IfOk, OnOk};
 ghost use Rattle.std.specs.List.{flat_map};
+ghost use Rattle.std.specs.String.{string_bytes};
 ghost use Rattle.mf_shape.specs.Chain.{IsShape};
 ghost use Rattle.mf_report.specs.Verdicts.{tolerance_text, accepted_text};
 ghost use Rattle.mf_report.specs.Verdicts.{refused_text, too_long, words_refusal};
 
-use crate::faults::push_kind;
-use crate::lines::{push_number, push_word};
 use mf_script::ScriptFault;
 use mf_shape::Shape;
 use std::alloc::{AllocError, Global};
+use std::fmt;
 
 // The tolerance of each stage behind a space, stage 0 first.
-fn push_tolerances(line: &mut Vec<u8>, shape: &Shape) -> Result<(), AllocError>
+fn write_tolerances(line: &mut String, shape: &Shape) -> Result<(), AllocError>
     requires { IsShape shape.now }
-    ensures { OnOk result
-        (line.new.items ≡ line.old.items ++ flat_map tolerance_text shape.now.stages) }
+    ensures { OnOk result (string_bytes line.new
+        ≡ string_bytes line.old ++ flat_map tolerance_text shape.now.stages) }
 {
     for g in 0..shape.stages().len() {
-        push_number(line, u64::from(shape.tolerance(g as u32)))?;
+        let tolerance = shape.tolerance(g as u32);
+        write!(line, " {tolerance}")?;
     }
     Ok(())
 }
@@ -31,12 +32,32 @@ fn push_tolerances(line: &mut Vec<u8>, shape: &Shape) -> Result<(), AllocError>
 pub fn accepted_line(alloc: Global, shape: &Shape) -> Result<Vec<u8>, AllocError>
     ensures { IfOk result (λ line. line.items ≡ accepted_text shape.now.stages) }
 {
-    let mut line = Vec::new(alloc);
-    push_word(&mut line, b"family ok stages", shape.stages().len() as u64)?;
-    line.extend_from_slice(b" tolerance")?;
-    push_tolerances(&mut line, shape)?;
-    line.push(b'\n')?;
-    Ok(line)
+    let stages = shape.stages().len();
+    let mut line = format!(in alloc; "family ok stages {stages} tolerance")?;
+    write_tolerances(&mut line, shape)?;
+    line.push('\n')?;
+    Ok(line.into_bytes())
+}
+
+// A refusal, without its line's end.
+#[derive(Clone, Copy)]
+struct Refusal<'a> {
+    fault: &'a ScriptFault,
+}
+
+impl fmt::Display for Refusal<'_> {
+    ghost use Rattle.std.specs.Prelude.{Some, ◌++◌, codes};
+    ghost use Rattle.mf_lines.specs.FaultTexts.{kind_text};
+    ghost use Rattle.mf_report.specs.Lines.{spaced};
+
+    ghost output = { λ refusal. Some (codes "refused line" ++ spaced refusal.fault.now.line
+        ++ codes " " ++ kind_text refusal.fault.now.kind) };
+
+    fn fmt<W: fmt::Write>(&self, f: &mut fmt::Formatter<W>) -> fmt::Result {
+        let line = self.fault.line;
+        let kind = &self.fault.kind;
+        write!(f, "refused line {line} {kind}")
+    }
 }
 
 /// The line of a refused script: `refused line L `, and the text of the fault. Fails only for want
@@ -45,12 +66,8 @@ pub fn accepted_line(alloc: Global, shape: &Shape) -> Result<Vec<u8>, AllocError
 pub fn refused_line(alloc: Global, fault: &ScriptFault) -> Result<Vec<u8>, AllocError>
     ensures { IfOk result (λ line. line.items ≡ refused_text fault.now) }
 {
-    let mut line = Vec::new(alloc);
-    push_word(&mut line, b"refused line", u64::from(fault.line))?;
-    line.push(b' ')?;
-    push_kind(&mut line, &fault.kind)?;
-    line.push(b'\n')?;
-    Ok(line)
+    let refusal = Refusal { fault };
+    Ok(format!(in alloc; "{refusal}\n")?.into_bytes())
 }
 
 /// The line that refuses a text with too many bytes: `refused line 0 limit text`.

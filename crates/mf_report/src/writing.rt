@@ -1,26 +1,24 @@
 //! The report of a run.
 
-ghost use Rattle.std.specs.Prelude.{◌≡◌, ◌≤◌, ◌++◌, codes, length, IfOk, IfErr, OnOk};
-ghost use Rattle.std.specs.List.{All};
+ghost use Rattle.std.specs.Prelude.{◌≡◌, ◌≤◌, ◌++◌, length, map, IfOk, IfErr, OnOk};
+ghost use Rattle.std.specs.List.{All, flat_map};
+ghost use Rattle.std.specs.String.{string_bytes};
 ghost use Rattle.std.specs.Io.KnownBytes.{Appends};
 ghost use Rattle.mf_client.specs.declared.done.Done.{Done};
 ghost use Rattle.mf_report.specs.Lines.{ended};
 ghost use Rattle.mf_client.specs.Runs.{IsSmall};
-ghost use Rattle.mf_report.specs.Counts.{io_text};
 ghost use Rattle.mf_report.specs.Report.{report_text};
 ghost use Rattle.mf_report.specs.Json.{written_text};
 ghost use Rattle.mf_report.specs.Writing.{Leaves};
 
-use crate::commands::push_commands;
-use crate::counts::push_io;
-use crate::dumps::push_dumps;
-use crate::json::json_bytes;
+use crate::commands::write_commands;
+use crate::dumps::lines_of;
+use crate::json::json_of;
 use crate::totals::{conversions_took, took};
 use mf_client::Done;
 use mf_io::{Sink, write_all};
 use mf_plain::Plain;
 use mf_script::Script;
-use mf_vault::Io;
 use std::alloc::{AllocError, Global};
 
 /// Why a report wasn't written whole.
@@ -32,37 +30,39 @@ pub enum ReportFault {
     Memory,
 }
 
-// A line of counts behind a word.
-#[tactic(auto, using(std::proofs::lemmas::List::append_assoc))]
-fn push_total(out: &mut Vec<u8>, word: &[u8], io: Io) -> Result<(), AllocError>
-    ensures { OnOk result (out.new.items ≡ out.old.items ++ ended (word.now ++ io_text io)) }
+// Writes lines, each with its end.
+fn write_lines(out: &mut String, lines: &[String]) -> Result<(), AllocError>
+    ensures { OnOk result (string_bytes out.new
+        ≡ string_bytes out.old ++ flat_map ended (map string_bytes lines.now)) }
 {
-    out.extend_from_slice(word)?;
-    push_io(out, io)?;
-    out.push(b'\n')?;
+    for line in lines {
+        writeln!(out, "{line}")?;
+    }
     Ok(())
 }
 
-/// The report's bytes. Fails only for want of memory.
+/// The report's text. Fails only for want of memory.
 #[tactic(auto, using(std::proofs::lemmas::List::append_assoc))]
-pub fn report_bytes(
+pub fn text_of(
     alloc: Global,
     script: &Script,
     commands: &[Done],
     files: &[Plain],
-) -> Result<Vec<u8>, AllocError>
+) -> Result<String, AllocError>
     requires few { length commands.now ≤ 4096 }
     requires small { All (λ (d : Done). IsSmall d.io) commands.now }
-    ensures { IfOk result (λ text. text.items ≡ report_text script.now commands.now files.now) }
+    ensures { IfOk result
+        (λ text. string_bytes text ≡ report_text script.now commands.now files.now) }
 {
     let all = took(alloc, commands)?;
     let converted = conversions_took(alloc, commands)?;
-    let mut out = Vec::from_slice(alloc, b"report 1\n")?;
-    push_commands(alloc, &mut out, script.files(), commands)?;
-    push_dumps(&mut out, script.files(), files, script.dumps())?;
-    push_total(&mut out, b"total ", all)?;
-    push_total(&mut out, b"converts ", converted)?;
-    out.extend_from_slice(b"end\n")?;
+    let dumps = lines_of(alloc, script.files(), files, script.dumps())?;
+    let mut out = String::from_str(alloc, "report 1\n")?;
+    write_commands(&mut out, script.files(), commands)?;
+    write_lines(&mut out, &dumps)?;
+    writeln!(out, "total {all}")?;
+    writeln!(out, "converts {converted}")?;
+    writeln!(out, "end")?;
     Ok(out)
 }
 
@@ -92,14 +92,14 @@ pub fn report<K: Sink>(
         (written_text json script.now done.now files.now) (K.written sink.old) (K.written sink.new) (K.faults sink.old) (K.faults sink.new)) }
 {
     let made = if json {
-        json_bytes(alloc, script, done, files)
+        json_of(alloc, script, done, files)
     } else {
-        report_bytes(alloc, script, done, files)
+        text_of(alloc, script, done, files)
     };
     let Ok(text) = made else {
         return Err(ReportFault::Memory);
     };
-    match write_all(sink, &text) {
+    match write_all(sink, text.as_bytes()) {
         Ok(()) => Ok(()),
         Err(_) => Err(ReportFault::Sink),
     }

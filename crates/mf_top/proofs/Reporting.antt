@@ -9,6 +9,7 @@ use Rattle.std.proofs.lemmas.List.Sums.{sum_by-le}
 use Rattle.std.proofs.lemmas.List.Elements.{All-nil, All-cons, All-append, All-filter, All-map, filter_passes}
 use Rattle.mf_places.specs.Facts.{BookFacts}
 use Rattle.mf_places.specs.Names.{count_of}
+use Rattle.mf_vault.specs.Texts.{io_text, io_numbers}
 use Rattle.mf_places.specs.Servers.{no_servers}
 use Rattle.mf_text.specs.Decimal.{decimal_text}
 use Rattle.mf_lines.specs.declared.parts.Act.{Act}
@@ -40,7 +41,7 @@ use Rattle.mf_client.specs.Clients.{commands_of}
 use Rattle.mf_client.specs.Runs.{IsDone, RunsFrom, gained, io_gained}
 use Rattle.mf_client.proofs.Numbered.{io_cut}
 use Rattle.mf_report.specs.Lines.{spaced}
-use Rattle.mf_report.specs.Counts.{io_text, io_numbers, total_io}
+use Rattle.mf_report.specs.Counts.{total_io}
 use Rattle.mf_report.specs.Commands.{converts}
 use Rattle.mf_report.specs.Dumps.{chunk_text}
 use Rattle.mf_report.specs.Report.{took, conversions}
@@ -251,7 +252,7 @@ took_none done fine =
 
 -- their text begins with two zeros
 zeros_text : (io : Io) → NoData io → (others : List ℕ) × (io_text io ≡ codes "io 0 0" ++ others)
-unfolding decimal_text digits
+unfolding digits
 zeros_text io none =
     let others = io.parities ∷ io.misses ∷ io.writes ∷ io.probes ∷ io.drops ∷ [] in
     (flat_map spaced others, λ i. codes "io" ++ flat_map spaced (none.pieces i ∷ none.copies i ∷ others))

@@ -6,6 +6,8 @@ use Rattle.mf_text.specs.Hex.{hex_text}
 use Rattle.mf_io.specs.Faults.{HasRisen}
 use Rattle.mf_places.specs.Facts.{BookFacts}
 use Rattle.mf_places.specs.Names.{count_of, name_at}
+use Rattle.mf_places.specs.Texts.{name_text}
+use Rattle.mf_vault.specs.Texts.{io_text}
 use Rattle.mf_places.specs.Placement.{server_of}
 use Rattle.mf_places.specs.Servers.{no_servers}
 use Rattle.mf_lines.specs.declared.parts.Act.TheVariants as act
@@ -29,8 +31,6 @@ use Rattle.mf_client.specs.declared.done.Outcome.TheVariants as outcome
 use Rattle.mf_client.specs.declared.done.Place.{Place}
 use Rattle.mf_client.specs.Runs.{IsDone}
 use Rattle.mf_report.specs.Lines.{spaced}
-use Rattle.mf_report.specs.Names.{name_text}
-use Rattle.mf_report.specs.Counts.{io_text}
 use Rattle.mf_report.specs.Dumps.{chunk_text}
 use Rattle.mf_report.specs.Report.{took, conversions}
 use Rattle.mf_report.specs.Verdicts.{refused_text}

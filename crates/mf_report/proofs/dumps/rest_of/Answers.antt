@@ -4,7 +4,7 @@ use Rattle.mf_places.specs.Names.{name_at}
 use Rattle.mf_places.specs.Numbers.{number_of}
 use Rattle.mf_places.proofs.Names.{number_of-name_at}
 use Rattle.mf_vault.specs.declared.answers.Rest.TheVariants as rest
-use Rattle.mf_report.proofs.Ranges.{if_ok-map}
+use Rattle.mf_report.proofs.Listed.{if_ok-map}
 use Rattle.mf_report.proofs.dumps.rest_of.Goals as goal
 
 pub returns : goal.returns

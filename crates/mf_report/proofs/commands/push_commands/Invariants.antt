@@ -1,8 +1,0 @@
-use Rattle.std.proofs.Common.{◌≡◌, ◌++◌, take, flat_map}
-use Rattle.mf_lines.specs.Meaning.{names_in}
-use Rattle.mf_report.specs.Commands.{done_text}
-use Rattle.mf_report.proofs.commands.push_commands.Given as goal
-
-abbrev pub invariant-loop-done : goal.invariant-loop-done
-invariant-loop-done l =
-    l.out.items ≡ l.initial.out.items ++ flat_map (done_text (names_in l.files)) (take l.done-index l.commands)

@@ -38,7 +38,8 @@ use Rattle.mf_client.specs.Acts.{Acts, SweepsBy, loses, LosesIn, LosesAll, IsLos
 use Rattle.mf_client.specs.Clients.{facts_in, commands_of, family_of, AreFiles, HasClient}
 use Rattle.mf_client.specs.Runs.{gained, io_gained, IsSmall, IsDone, RunsFrom}
 use Rattle.mf_client.specs.Steps.{Comes, IsRunning, IsLine, Finds, AreOfFamily}
-use Rattle.mf_client.proofs.Known.{command_knows, has_policy, IsPolicied}
+use Rattle.mf_lines.specs.Keeps.{IsPolicied}
+use Rattle.mf_client.proofs.Known.{command_knows, has_policy}
 use Rattle.mf_client.proofs.Listing.{lose_listed}
 use Rattle.mf_vault.proofs.Leaving.{Stays, quiet_all, AreQuiet}
 use Rattle.mf_client.proofs.Numbered.{io_set, io_cut, plus_none, facts_cut, idle_cut, IsFiled, filed, filed_cut}

@@ -23,7 +23,7 @@ use Rattle.mf_lines.specs.declared.forms.Form.{Form}
 use Rattle.mf_lines.specs.declared.forms.Form.TheVariants as says
 use Rattle.mf_lines.specs.Meaning.{Script, SoFar, on_last, with_client, client_with, with_command, with_form, with_line}
 use Rattle.mf_lines.specs.Meaning.{so_before, so_with, so_of, names_in, file_in, phases_in, main_of, no_block, Block}
-use Rattle.mf_lines.proofs.AgeLemmas.{IsTimely}
+use Rattle.mf_lines.specs.Keeps.{IsPolicied, Keeps}
 use Rattle.mf_lines.proofs.LineWordLemmas.{KnowsFile}
 use Rattle.mf_lines.proofs.FormLemmas.{line_is}
 use Rattle.mf_script.specs.Texts.{MakeForms}
@@ -119,11 +119,6 @@ command_items P x (item.Phase cs ∷ y ∷ items) p h = let r = command_items P 
 
 -- ---- of the lines
 
--- a sweep has a policy
-abbrev pub IsPolicied : Option (List ℕ) → Act → Type 0
-IsPolicied policy act.Sweep = is_some policy ≡ true
-IsPolicied policy any_other = Unit {0}
-
 -- a command's file is one of the first n
 abbrev pub KnowsIt : ℕ → Option (List ℕ) → Command → Type 0
 KnowsIt n policy c = IfSome (file_in c.act) (λ file. file < n) × IsPolicied policy c.act
@@ -151,17 +146,13 @@ ruled n policy thresholds items h =
     items_weaker (KnowsIt n policy) (KnowsIt n (Some thresholds)) (λ c k. (k.0, policied policy thresholds c.act k.1))
     items h
 
-timely_act : (so : SoFar) (x : Act) → IsTimely so (says.Command x) → IsPolicied so.script.policy x
-timely_act so act.Sweep k = k
-timely_act so any_other k = tt
-
 named : (s : Script) (o : Option ℕ) → IfSome o (λ file. file < length (names_in s.files))
     → IfSome o (λ file. file < length s.files)
 named s o h = some_weaker o (length (names_in s.files)) (length s.files)
     (let e = length-map s.files (λ (file : FileLine). file.name) in
     omega arith) h
 
-good_form : (so : SoFar) (n line : ℕ) (form : Form) → KnowsFile (names_in so.script.files) form → IsTimely so form
+good_form : (so : SoFar) (n line : ℕ) (form : Form) → KnowsFile (names_in so.script.files) form → Keeps so form
     → Good so.script n → Good (with_form so.script line form) (n + 1)
 good_form so n line says.Morph k t h = let low = h.1 in (h.0, omega arith)
 good_form so n line (says.Servers count) k t h = let low = h.1 in (h.0, omega arith)
@@ -196,7 +187,7 @@ good_form so n line (says.Command act) k t h =
     let low = h.1 in
     let x : Command = record { line = line; act = act } in
     let r = command_items (KnowsIt (length s.files) s.policy) x s.items
-    (named s (file_in act) k, timely_act so act t) h.0 in
+    (named s (file_in act) k, t.1) h.0 in
     let e = r.1 in (r.0, omega arith)
 good_form so n line (says.Dump file) k t h = let low = h.1 in (h.0, omega arith)
 good_form so n line says.End k t h = let low = h.1 in (h.0, omega arith)
@@ -208,7 +199,7 @@ good_lines so [] (form ∷ forms) n m h = absurd m
 good_lines so (line ∷ lines) [] n m h = absurd m
 good_lines so (line ∷ lines) (form ∷ forms) n m h =
     let is = line_is so line form m.0 in
-    let one = good_form so n (so.lines + 1) form is.known is.timely h in
+    let one = good_form so n (so.lines + 1) form is.known is.keeps h in
     let all = good_lines (with_line so form) lines forms (n + 1) m.1 one in
     let low = all.1 in
     let e : length (line ∷ lines) ≡ suc (length lines) = refl in (all.0, omega arith)

@@ -1,4 +1,3 @@
-pub mod Limits
 pub mod Phased
 pub mod Zips
 pub mod Sharing

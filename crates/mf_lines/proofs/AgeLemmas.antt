@@ -47,11 +47,11 @@ many_numbers words ns e = sym (ap length (numbers_are words ns e) ∙ length-map
 
 -- ---- ticks, clients and sweeps
 
-within_one : (p : Bool) (l : LimitName) (u : Unit {0}) → within ((p, l) ∷ []) ≡ Ok u → p ≡ false
+pub within_one : (p : Bool) (l : LimitName) (u : Unit {0}) → within ((p, l) ∷ []) ≡ Ok u → p ≡ false
 within_one true l u e = absurd cc
 within_one false l u e = refl
 
-tick_small : (ws : List (List ℕ)) (ticks : ℕ) → tick_form ws ≡ Ok (says.Tick ticks) → ticks ≤ 1000000000
+pub tick_small : (ws : List (List ℕ)) (ticks : ℕ) → tick_form ws ≡ Ok (says.Tick ticks) → ticks ≤ 1000000000
 tick_small ws ticks e =
     let a = bound (one_word ws) _ (says.Tick ticks) e in
     let b = bound (spelled a.value) _ (says.Tick ticks) a.next in
@@ -62,13 +62,13 @@ tick_small ws ticks e =
     let low = ltb-false 1000000000 b.value (within_one (ltb 1000000000 b.value) limit.Tick c.value c.is) in
     omega (arith, same, low)
 
-client_room : (so : SoFar) (ws : List (List ℕ)) (form : Form) → client_form so ws ≡ Ok form → so.clients < 8
+pub client_room : (so : SoFar) (ws : List (List ℕ)) (form : Form) → client_form so ws ≡ Ok form → so.clients < 8
 client_room so ws form e =
     let a = bound (no_words ws) _ form e in
     let b = bound (within ((leb 8 so.clients, limit.Clients) ∷ [])) (λ _. Ok says.Client) form a.next in
     leb-false 8 so.clients (within_one (leb 8 so.clients) limit.Clients b.value b.is)
 
-sweep_known : (so : SoFar) (ws : List (List ℕ)) (form : Form) → form_in so (word.Command verb.Sweep) ws ≡ Ok form
+pub sweep_known : (so : SoFar) (ws : List (List ℕ)) (form : Form) → form_in so (word.Command verb.Sweep) ws ≡ Ok form
     → is_some so.script.policy ≡ true
 sweep_known so ws form e =
     let b = bound (sweep_operand so ws >>= λ _. Ok act.Sweep) (λ act. Ok (says.Command act)) form e in
@@ -78,7 +78,7 @@ sweep_known so ws form e =
     not-false (is_some so.script.policy)
     (not_refused (not (is_some so.script.policy)) kind.Order a.value f.next)
 
-policy_many : (so : SoFar) (ws : List (List ℕ)) (thresholds : List ℕ)
+pub policy_many : (so : SoFar) (ws : List (List ℕ)) (thresholds : List ℕ)
     → policy_form so ws ≡ Ok (says.Policy thresholds) → length thresholds ≡ length (main_of so.script).stages
 policy_many so ws thresholds e =
     let many : ℕ = length (main_of so.script).stages in
@@ -94,25 +94,3 @@ policy_many so ws thresholds e =
     ap length (sym is) ∙ many_numbers ws a.value a.is
     ∙ eqb-true (length ws) many
     (not-false (eqb (length ws) many) (not_refused (not (eqb (length ws) many)) kind.Arity same.value same.is))
-
--- a policy has as many thresholds as there are stages, a tick is at most a billion, a client stands behind fewer than
--- eight, and a sweep behind a policy
-abbrev pub IsTimely : SoFar → Form → Type 0
-IsTimely so (says.Policy thresholds) = length thresholds ≡ length (main_of so.script).stages
-IsTimely so (says.Tick ticks) = ticks ≤ 1000000000
-IsTimely so says.Client = so.clients < 8
-IsTimely so (says.Command act.Sweep) = is_some so.script.policy ≡ true
-IsTimely so form = Unit {0}
-
-pub is_timely : (so : SoFar) (first : LineWord) (ws : List (List ℕ)) (form : Form) → form_in so first ws ≡ Ok form
-    → first_word form ≡ first → IsTimely so form
-is_timely so first ws (says.Policy thresholds) e is =
-    policy_many so ws thresholds (subst (λ f. form_in so f ws ≡ Ok (says.Policy thresholds)) (sym is) e)
-is_timely so first ws (says.Tick ticks) e is =
-    tick_small ws ticks (subst (λ f. form_in so f ws ≡ Ok (says.Tick ticks)) (sym is) e)
-is_timely so first ws says.Client e is =
-    client_room so ws says.Client (subst (λ f. form_in so f ws ≡ Ok says.Client) (sym is) e)
-is_timely so first ws (says.Command act.Sweep) e is =
-    sweep_known so ws (says.Command act.Sweep)
-    (subst (λ f. form_in so f ws ≡ Ok (says.Command act.Sweep)) (sym is) e)
-is_timely so first ws form e is = tt

@@ -30,7 +30,8 @@ use Rattle.mf_lines.specs.LineTexts.{Alike}
 use Rattle.mf_lines.proofs.LineWordLemmas.{bound, some_is, not_refused, word_is, NewName, KnowsFile, bare_read}
 use Rattle.mf_lines.proofs.LineWordLemmas.{servers_read, chunk_read, points_read, stage_read, policy_read, file_read}
 use Rattle.mf_lines.proofs.LineWordLemmas.{tick_read, dump_read}
-use Rattle.mf_lines.proofs.AgeLemmas.{IsTimely, is_timely}
+use Rattle.mf_lines.specs.Keeps.{Keeps}
+use Rattle.mf_lines.proofs.KeepLemmas.{keeps}
 use Rattle.mf_lines.proofs.CommandLemmas.{then, AreFit, fit_words, clean_joined, words_alone, IsRead, as_it_is}
 use Rattle.mf_lines.proofs.CommandLemmas.{command_read}
 
@@ -84,7 +85,7 @@ form_read so last word.End ws form was follows e =
     (bare_read (names_in so.script.files) word.End ws a.value says.End form a.is (let n = a.next in cc) refl refl tt tt)
 
 -- What is known of a line that has a form: it is clean; it stands first, or behind a line that it may follow; its
--- file's name is new, or its command's file is there; a tick is small, and a sweep has a policy. Where the script has
+-- file's name is new, or its command's file is there; and it keeps its limits. Where the script has
 -- at most 128 servers, it is the form's text, but for the order of a list of servers, and that text has the same form.
 pub record LineIs (so : SoFar) (line : List ℕ) (form : Form) : Type 0 where
   pub clean : is_clean line ≡ true
@@ -92,7 +93,7 @@ pub record LineIs (so : SoFar) (line : List ℕ) (form : Form) : Type 0 where
       ⊎ ((last : LineWord) × (so.last ≡ Some last) × (may_follow last (first_word form) ≡ true))
   pub new : NewName (names_in so.script.files) form
   pub known : KnowsFile (names_in so.script.files) form
-  pub timely : IsTimely so form
+  pub keeps : Keeps so form
   pub again : form_at so (line_text (names_in so.script.files) form) ≡ Ok form
   pub alike : so.script.servers ≤ 128 → Alike line (line_text (names_in so.script.files) form)
 
@@ -133,7 +134,7 @@ module _ (so : SoFar) (last : LineWord) (was : so.last ≡ Some last) where
         place = inr (last, was, ap (may_follow last) read.says.word ∙ follows);
         new = read.says.new;
         known = read.says.known;
-        timely = is_timely so a.value ws b.value b.is read.says.word;
+        keeps = keeps so a.value ws b.value b.is read.says.word;
         again = ap (form_at so) (sym text)
             ∙ again_later a.value read.printed b.value (ap word_of (sym spelling) ∙ found) read.again follows
             (subst (λ v. (is_word v ≡ true) × (is_clean v ≡ true)) spelling fit.0, read.fit fit.1);
@@ -157,7 +158,7 @@ first_is so line form clean was e =
             place = inl (was, refl);
             new = tt;
             known = tt;
-            timely = tt;
+            keeps = tt;
             again = ap (form_at so) (sym same)
                 ∙ cond-true _ _ _ clean ∙ ap (λ l. placed l so line) was ∙ cond-true _ _ _ holds;
             alike = λ few. inl same;

@@ -4,5 +4,6 @@ pub mod ActLemmas
 pub mod LineWordLemmas
 pub mod CommandLemmas
 pub mod AgeLemmas
+pub mod KeepLemmas
 pub mod FormLemmas
 pub mod NameLemmas

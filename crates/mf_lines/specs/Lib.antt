@@ -5,3 +5,4 @@ pub mod Lines
 pub mod LineTexts
 pub mod FaultTexts
 pub mod Drafts
+pub mod Keeps

@@ -13,7 +13,7 @@
 //! ```
 //!
 //! *Proved.* A line's form behind the lines so far, or the first kind of its fault; what the lines
-//! so far add up to.
+//! so far add up to. `lines_keep`, a law: what each line that has a form keeps.
 #![tactic(auto)]
 
 mod ages;
@@ -21,6 +21,7 @@ mod draft;
 mod faults;
 mod files;
 mod forms;
+mod laws;
 mod names;
 mod parts;
 mod texts;
@@ -28,6 +29,7 @@ mod words;
 
 pub use draft::Draft;
 pub use forms::Form;
+pub use laws::lines_keep;
 pub use names::is_name;
 pub use parts::{
     Act, Bytes, Client, Clients, Command, Commands, Content, FileLine, FileName, Item, Kind,

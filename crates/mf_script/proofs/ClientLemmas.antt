@@ -16,7 +16,7 @@ use Rattle.mf_lines.specs.Meaning.{with_form}
 use Rattle.mf_lines.specs.Meaning.{phases_in, clients_with, so_before, with_line, so_with, so_of}
 use Rattle.mf_lines.specs.Lines.{may_follow, may_follow_command}
 use Rattle.mf_lines.proofs.ListLemmas.{on_last-push}
-use Rattle.mf_lines.proofs.AgeLemmas.{IsTimely}
+use Rattle.mf_lines.specs.Keeps.{Keeps}
 use Rattle.mf_lines.proofs.FormLemmas.{LineIs, line_is}
 use Rattle.mf_script.specs.Texts.{MakeForms}
 use Rattle.mf_script.specs.Scripts.{IsScript}
@@ -143,7 +143,7 @@ add_command items k c h sized =
 -- ---- one line more
 
 -- behind a client or a command
-in_client : (so : SoFar) (n : ℕ) (form : Form) → may_follow_command (first_word form) ≡ true → IsTimely so form
+in_client : (so : SoFar) (n : ℕ) (form : Form) → may_follow_command (first_word form) ≡ true → Keeps so form
     → HasPhase so.script.items → Sized so.clients (phases_in so.script.items) → (1 ≤ so.clients) × (so.clients ≤ 8)
     → Stands (Some (first_word form)) (clients_with so form) (with_form so.script n form).items
 unfolding Stands
@@ -159,7 +159,7 @@ in_client so n says.End e timely h sized some = (sized, full so.clients (phases_
 in_client so n form e timely h sized some = absurd cc
 
 next : (last : LineWord) (so : SoFar) (n : ℕ) (form : Form) → may_follow last (first_word form) ≡ true
-    → IsTimely so form → Stands (Some last) so.clients so.script.items
+    → Keeps so form → Stands (Some last) so.clients so.script.items
     → Stands (Some (first_word form)) (clients_with so form) (with_form so.script n form).items
 unfolding may_follow Stands
 next word.Phase so n says.Client e timely h = add_client so.script.items so.clients h.0 h.1 timely
@@ -181,7 +181,7 @@ line_stands so line form is h =
       | inl first ↦ subst
           (λ f. Stands (Some (first_word f)) (clients_with so f) (with_form so.script (so.lines + 1) f).items)
           (sym first.1) (subst (λ l. Stands l so.clients so.script.items) first.0 h)
-      | inr (last, was, follows) ↦ next last so (so.lines + 1) form follows is.timely
+      | inr (last, was, follows) ↦ next last so (so.lines + 1) form follows is.keeps
           (subst (λ l. Stands l so.clients so.script.items) was h)
     ]
 

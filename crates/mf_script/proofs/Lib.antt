@@ -7,6 +7,7 @@ pub mod PhaseLemmas
 pub mod PolicyLemmas
 pub mod ClientLemmas
 pub mod ScriptLemmas
+pub mod Limits
 pub mod ReadingLemmas
 pub mod Exclusive
 pub mod Drawing

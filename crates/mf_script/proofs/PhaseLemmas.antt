@@ -14,7 +14,7 @@ use Rattle.mf_lines.specs.declared.forms.Form.{Form}
 use Rattle.mf_lines.specs.declared.forms.Form.TheVariants as says
 use Rattle.mf_lines.specs.Meaning.{Script, SoFar, on_last, with_client, with_command, with_form, phases_in, so_before}
 use Rattle.mf_lines.specs.Meaning.{with_line, so_with, so_of}
-use Rattle.mf_lines.proofs.AgeLemmas.{IsTimely}
+use Rattle.mf_lines.specs.Keeps.{Keeps}
 use Rattle.mf_lines.proofs.FormLemmas.{line_is}
 use Rattle.mf_script.specs.Texts.{MakeForms}
 use Rattle.mf_script.specs.Scripts.{IsScript}
@@ -116,7 +116,7 @@ command_same : (c : Command) (x : Item) → ticks_of (with_command c x) ≡ tick
 command_same c (item.Tick ticks) = refl
 command_same c (item.Phase clients) = refl
 
-form_few : (so : SoFar) (n : ℕ) (form : Form) → IsTimely so form
+form_few : (so : SoFar) (n : ℕ) (form : Form) → Keeps so form
     → all_ticks (with_form so.script n form).items ≤ all_ticks so.script.items + 1000000000
 form_few so n (says.Tick ticks) h = omega (arith, h, all_push so.script.items (item.Tick ticks))
 form_few so n says.Phase h = omega (arith, all_push so.script.items (item.Phase []))
@@ -132,7 +132,7 @@ lines_few so [] [] made = omega arith
 lines_few so [] (form ∷ forms) made = absurd made
 lines_few so (line ∷ lines) [] made = absurd made
 lines_few so (line ∷ lines) (form ∷ forms) made =
-    let one = form_few so (so.lines + 1) form (line_is so line form made.0).timely in
+    let one = form_few so (so.lines + 1) form (line_is so line form made.0).keeps in
     let rest = lines_few (with_line so form) lines forms made.1 in
     omega arith
 

@@ -9,7 +9,7 @@ use Rattle.mf_lines.specs.declared.forms.Form.{Form}
 use Rattle.mf_lines.specs.declared.forms.Form.TheVariants as says
 use Rattle.mf_lines.specs.Meaning.{Script, SoFar, main_of, first_word, with_form, so_before, with_line, so_with, so_of}
 use Rattle.mf_lines.specs.Lines.{may_follow}
-use Rattle.mf_lines.proofs.AgeLemmas.{IsTimely}
+use Rattle.mf_lines.specs.Keeps.{Keeps}
 use Rattle.mf_lines.proofs.FormLemmas.{LineIs, line_is}
 use Rattle.mf_script.specs.Texts.{MakeForms}
 use Rattle.mf_script.specs.Scripts.{IsScript}
@@ -40,7 +40,7 @@ fits last s ruled = ruled
 
 -- one line more
 next : (last : LineWord) (so : SoFar) (n : ℕ) (form : Form) → may_follow last (first_word form) ≡ true
-    → IsTimely so form → Ruled (Some last) so.script → Ruled (Some (first_word form)) (with_form so.script n form)
+    → Keeps so form → Ruled (Some last) so.script → Ruled (Some (first_word form)) (with_form so.script n form)
 unfolding may_follow
 next word.Morph so n (says.Servers x) e timely ruled = ruled
 next word.Servers so n (says.Chunk x) e timely ruled = ruled
@@ -63,7 +63,7 @@ ruled_line so line form is ruled =
     elim is.place [
       | inl first ↦ subst (λ f. Ruled (Some (first_word f)) (with_form so.script (so.lines + 1) f)) (sym first.1)
           (subst (λ l. Ruled l so.script) first.0 ruled)
-      | inr (last, was, follows) ↦ next last so (so.lines + 1) form follows is.timely
+      | inr (last, was, follows) ↦ next last so (so.lines + 1) form follows is.keeps
           (subst (λ l. Ruled l so.script) was ruled)
     ]
 

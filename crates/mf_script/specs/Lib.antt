@@ -5,6 +5,7 @@ pub mod Scripts
 pub mod Phases
 pub mod Losses
 pub mod Faults
+pub mod Limits
 pub mod Laws
 pub mod Printing
 pub mod Seeds

@@ -1,6 +1,7 @@
 //! Laws of scripts.
 
 ghost use Rattle.mf_script.specs.Laws.{OneAnswer, SeedsAreScripts};
+ghost use Rattle.mf_script.specs.Limits.{ScriptsKeepLimits};
 
 /// A text has one answer: a script or a fault, and never two.
 pub fn one_answer()
@@ -10,4 +11,9 @@ pub fn one_answer()
 /// The text of each seed is a script, so none is refused.
 pub fn seeds_are_scripts()
     ensures { SeedsAreScripts }
+{}
+
+/// Every script keeps its limits: of the chunk size, of files, phases and commands.
+pub fn scripts_keep_limits()
+    ensures { ScriptsKeepLimits }
 {}

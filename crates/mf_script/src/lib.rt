@@ -23,7 +23,8 @@
 //! text is one script or has one fault (the kernel list of a set of places aside), and never both.
 //! `content_bytes`: the bytes of a file's line. `from_seed`: the script of the text that the draws
 //! of a number write. `seeds_are_scripts`, a law: each such text is a script, so only want of
-//! memory keeps `from_seed` from its answer. A `Script` keeps that it is some text's script: it has
+//! memory keeps `from_seed` from its answer. `scripts_keep_limits`, a law: the numbers of a script are
+//! within its limits. A `Script` keeps that it is some text's script: it has
 //! one family, named `main`, to which each file belongs.
 //!
 //! *Neither.* How long reading takes.
@@ -39,6 +40,7 @@ mod script;
 mod seeds;
 
 pub use contents::content_bytes;
+pub use laws::{one_answer, scripts_keep_limits, seeds_are_scripts};
 pub use mf_lines::{
     Act, ActText, Bytes, Client, Clients, Command, Commands, Content, FileLine, FileName, Item,
     Kind, LimitName, ScriptFault, is_name, name_of,

@@ -26,7 +26,7 @@ use Rattle.mf_crew.specs.Files.{HasPhase, RestsBy, AllRestBy}
 use Rattle.mf_crew.specs.Alone.{first_actors}
 use Rattle.mf_crew.specs.Live.{Ran, AllRan, IsPhase}
 use Rattle.mf_top.specs.ScriptRun.{new_file, new_from, new_files, AreOfLines, RunsTo, IsScriptRun}
-use Rattle.mf_crew.proofs.Limits.{in_clients, in_item, in_items}
+use Rattle.mf_script.specs.Limits.{in_clients, in_item, in_items}
 
 -- ---- lists
 

@@ -1,5 +1,5 @@
 use Rattle.std.proofs.Common.{arith}
-use Rattle.mf_crew.proofs.Limits.{limits}
+use Rattle.mf_script.proofs.Limits.{limits}
 use Rattle.mf_top.proofs.Running.{count_next, count_fits}
 use Rattle.mf_top.proofs.phases.count_phases.Goals as goal
 

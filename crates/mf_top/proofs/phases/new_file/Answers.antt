@@ -1,7 +1,7 @@
 use Rattle.std.proofs.Common.{◌≡◌, ◌≤◌, length, ap, ◌∙◌, sym, subst, arith}
 use Rattle.mf_code.specs.Chunks.{chunk_count}
 use Rattle.mf_script.specs.Contents.{bytes_in}
-use Rattle.mf_crew.proofs.Limits.{limits, file_is}
+use Rattle.mf_script.proofs.Limits.{limits, file_is}
 use Rattle.mf_top.proofs.phases.new_file.Goals as goal
 
 pub overflow_cast-bytes : goal.overflow_cast-bytes

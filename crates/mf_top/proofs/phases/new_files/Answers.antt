@@ -1,7 +1,7 @@
 use Rattle.std.proofs.Common.{length, ap, ◌∙◌, sym, arith, Some}
 use Rattle.std.specs.Prelude.{slice_get}
 use Rattle.std.proofs.lemmas.Option.{slice_get-get_or}
-use Rattle.mf_crew.proofs.Limits.{limits}
+use Rattle.mf_script.proofs.Limits.{limits}
 use Rattle.mf_top.proofs.Running.{new_next}
 use Rattle.mf_top.proofs.phases.new_files.Goals as goal
 

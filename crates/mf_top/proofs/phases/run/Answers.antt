@@ -4,7 +4,7 @@ use Rattle.mf_client.specs.declared.done.Done.{Done}
 use Rattle.mf_client.specs.Runs.{IsSmall}
 use Rattle.mf_script.specs.Phases.{ticks_before}
 use Rattle.mf_crew.specs.Files.{AllRestBy}
-use Rattle.mf_crew.proofs.Limits.{limits}
+use Rattle.mf_script.proofs.Limits.{limits}
 use Rattle.mf_top.proofs.Running.{begins, rest_on, has_phase, ticks_grow, run_next, run_ends}
 use Rattle.mf_top.proofs.Running.{plain_few, of_lines}
 use Rattle.mf_top.proofs.phases.run.Goals as goal

@@ -16,7 +16,7 @@ use Rattle.mf_lines.specs.declared.parts.Act.{Act}
 use Rattle.mf_lines.specs.declared.parts.Act.TheVariants as act
 use Rattle.mf_lines.specs.declared.parts.Command.{Command}
 use Rattle.mf_lines.specs.declared.parts.FileLine.{FileLine}
-use Rattle.mf_lines.specs.Meaning.{Script}
+use Rattle.mf_lines.specs.Meaning.{Script, file_in}
 use Rattle.mf_script.specs.Losses.{losses_of}
 use Rattle.mf_script.specs.Scripts.{IsScript}
 use Rattle.mf_vault.specs.declared.answers.Entry.{Entry}
@@ -37,7 +37,8 @@ use Rattle.mf_client.specs.Sweeps.{Visit, IsSwept, ages_in}
 use Rattle.mf_client.specs.Acts.{Acts, SweepsBy, loses, LosesIn, LosesAll, IsLost, lists_on, away_of, cut_all}
 use Rattle.mf_client.specs.Clients.{facts_in, commands_of, family_of, AreFiles, HasClient}
 use Rattle.mf_client.specs.Runs.{gained, io_gained, IsSmall, IsDone, RunsFrom}
-use Rattle.mf_client.specs.Steps.{Comes, IsRunning, IsLine, Finds, AreOfFamily}
+use Rattle.mf_client.specs.Acts.{Comes, ActsBy}
+use Rattle.mf_client.specs.Steps.{IsRunning, IsLine, Finds, AreOfFamily}
 use Rattle.mf_lines.specs.Keeps.{IsPolicied}
 use Rattle.mf_client.proofs.Known.{command_knows, has_policy}
 use Rattle.mf_client.proofs.Listing.{lose_listed}
@@ -222,29 +223,22 @@ sweeps_left None o parts before after few most kept idle x = absurd x
 sweeps_left (Some thresholds) o parts before after few most kept idle x =
     swept_left thresholds o parts before after few most kept idle x
 
+left_by : (f : Option ℕ) (policy : Option (List ℕ)) (line : ℕ) (x : Act) (o : Outcome) (parts : List Part)
+    (before after : List Actor) → IsFewPolicy policy → length before ≤ 128 → All IsFiled before
+    → All IsIdle before → ActsBy f policy line x o parts before after → Left before after
+left_by (Some file) policy line x o parts before after few most kept idle h =
+    on_left x o file before after kept idle h.1
+left_by None policy line (act.Lose server) o parts before after few most kept idle h =
+    lost_left server line o before after idle h.1
+left_by None policy line act.Sweep o parts before after few most kept idle h =
+    sweeps_left policy o parts before after few most kept idle h
+left_by None policy line other o parts before after few most kept idle h = absurd h
+
 acts_left : (policy : Option (List ℕ)) (line : ℕ) (x : Act) (o : Outcome) (parts : List Part)
     (before after : List Actor) → IsFewPolicy policy → length before ≤ 128 → All IsFiled before
     → All IsIdle before → Acts policy line x o parts before after → Left before after
-acts_left policy line (act.Create file) o parts before after few most kept idle x =
-    on_left (act.Create file) o file before after kept idle x.1
-acts_left policy line (act.Read file away) o parts before after few most kept idle x =
-    on_left (act.Read file away) o file before after kept idle x.1
-acts_left policy line (act.Repair file away) o parts before after few most kept idle x =
-    on_left (act.Repair file away) o file before after kept idle x.1
-acts_left policy line (act.Convert file away stop) o parts before after few most kept idle x =
-    on_left (act.Convert file away stop) o file before after kept idle x.1
-acts_left policy line (act.Reclaim file) o parts before after few most kept idle x =
-    on_left (act.Reclaim file) o file before after kept idle x.1
-acts_left policy line (act.Remove file) o parts before after few most kept idle x =
-    on_left (act.Remove file) o file before after kept idle x.1
-acts_left policy line (act.Hold file) o parts before after few most kept idle x =
-    on_left (act.Hold file) o file before after kept idle x.1
-acts_left policy line (act.Release file) o parts before after few most kept idle x =
-    on_left (act.Release file) o file before after kept idle x.1
-acts_left policy line (act.Lose server) o parts before after few most kept idle x =
-    lost_left server line o before after idle x.1
-acts_left policy line act.Sweep o parts before after few most kept idle x =
-    sweeps_left policy o parts before after few most kept idle x
+acts_left policy line x o parts before after few most kept idle h =
+    left_by (file_in x) policy line x o parts before after few most kept idle h
 
 -- ---- a client on its way
 

@@ -1,7 +1,7 @@
 -- Where the whole state is told, a client's commands have one result.
 use Rattle.std.proofs.Common.{◌≡◌, ◌≢◌, ℕ, ◌+◌, ◌-◌, Option, Bool, false, List, [], ◌∷◌, length}
 use Rattle.std.proofs.Common.{filter}
-use Rattle.std.proofs.Common.{refl, sym, ap, ◌∙◌, subst, arith, Some, All}
+use Rattle.std.proofs.Common.{refl, sym, ap, ◌∙◌, subst, arith, Some, None, All}
 use Rattle.std.specs.Prelude.{slice_set, Vec}
 use Rattle.std.specs.List.{list_any}
 use Rattle.std.specs.Global.{Global}
@@ -15,7 +15,7 @@ use Rattle.mf_places.specs.declared.servers.Servers.{Servers}
 use Rattle.mf_lines.specs.declared.parts.Act.{Act}
 use Rattle.mf_lines.specs.declared.parts.Act.TheVariants as act
 use Rattle.mf_lines.specs.declared.parts.Command.{Command}
-use Rattle.mf_lines.specs.Meaning.{Script}
+use Rattle.mf_lines.specs.Meaning.{Script, file_in}
 use Rattle.mf_vault.specs.declared.answers.Pinned.{Pinned}
 use Rattle.mf_vault.specs.declared.answers.Pinned.TheVariants as pinned
 use Rattle.mf_vault.specs.Actor.{Actor, Call, did, onward, pin, unpin, lose, cut_off}
@@ -49,7 +49,7 @@ use Rattle.mf_client.specs.Acts.{IsCreated, IsRefused, IsReadOut, IsRepaired, Is
 use Rattle.mf_client.specs.Acts.{IsHeld, IsReleased, Pins, ActsOn}
 use Rattle.mf_client.specs.OnFile.{OnFile}
 use Rattle.mf_client.specs.Acts.{Acts, loses, LosesIn, LosesAll, IsLost, lists_on, away_of, cut_all}
-use Rattle.mf_client.specs.Steps.{Comes}
+use Rattle.mf_client.specs.Acts.{Comes, ActsBy}
 use Rattle.mf_client.specs.Laws.{IsWhole, HadMemory, RunsOnce}
 use Rattle.mf_client.specs.Runs.{IsDone, RunsFrom, io_gained}
 use Rattle.mf_client.proofs.Went.{whole_on, whole_all, refused_reads, comes_does}
@@ -403,24 +403,18 @@ lose_whole server line (outcome.Lost n) before after w x =
 lose_whole server line outcome.Memory before after w x = subst (All IsWhole) (sym x) w
 lose_whole server line other before after w x = absurd x
 
+whole_by : (f : Option ℕ) (policy : Option (List ℕ)) (line : ℕ) (x : Act) (o : Outcome) (parts : List Part)
+    (before after : List Actor) → All IsWhole before → ActsBy f policy line x o parts before after
+    → All IsWhole after
+whole_by (Some file) policy line x o parts before after w h = on_whole x o file before after w h.1
+whole_by None policy line (act.Lose server) o parts before after w h = lose_whole server line o before after w h.1
+whole_by None policy line act.Sweep o parts before after w h = swept_by_whole policy o parts before after w h
+whole_by None policy line other o parts before after w h = absurd h
+
 acts_whole : (policy : Option (List ℕ)) (line : ℕ) (x : Act) (o : Outcome) (parts : List Part)
     (before after : List Actor) → All IsWhole before
     → Acts policy line x o parts before after → All IsWhole after
-acts_whole policy line (act.Create file) o parts before after w x = on_whole (act.Create file) o file before after w x.1
-acts_whole policy line (act.Read file away) o parts before after w x = on_whole (act.Read file away) o file before after
-    w x.1
-acts_whole policy line (act.Repair file away) o parts before after w x =
-    on_whole (act.Repair file away) o file before after w x.1
-acts_whole policy line (act.Convert file away stop) o parts before after w x =
-    on_whole (act.Convert file away stop) o file before after w x.1
-acts_whole policy line (act.Reclaim file) o parts before after w x =
-    on_whole (act.Reclaim file) o file before after w x.1
-acts_whole policy line (act.Remove file) o parts before after w x = on_whole (act.Remove file) o file before after w x.1
-acts_whole policy line (act.Hold file) o parts before after w x = on_whole (act.Hold file) o file before after w x.1
-acts_whole policy line (act.Release file) o parts before after w x = on_whole (act.Release file) o file before after w
-    x.1
-acts_whole policy line (act.Lose server) o parts before after w x = lose_whole server line o before after w x.1
-acts_whole policy line act.Sweep o parts before after w x = swept_by_whole policy o parts before after w x
+acts_whole policy line x o parts before after w h = whole_by (file_in x) policy line x o parts before after w h
 
 -- ---- a client's commands
 

@@ -25,7 +25,7 @@ use Rattle.mf_client.specs.Acts.{IsCreated, IsRefused, IsReadOut, IsRepaired, Is
 use Rattle.mf_client.specs.Acts.{IsHeld, IsReleased, Pins}
 use Rattle.mf_client.specs.Laws.{IsWhole}
 use Rattle.mf_client.specs.Runs.{gained}
-use Rattle.mf_client.specs.Steps.{Comes}
+use Rattle.mf_client.specs.Acts.{Comes}
 use Rattle.mf_convert.proofs.Leaving.{creates_leaves, removes_leaves, converts_leaves}
 use Rattle.mf_read.proofs.Leaving.{reads_leaves}
 use Rattle.mf_repair.proofs.Leaving.{repairs_leaves}

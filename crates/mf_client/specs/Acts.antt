@@ -12,6 +12,7 @@ use Rattle.mf_places.specs.Placement.{is_on}
 use Rattle.mf_places.specs.Servers.{no_servers}
 use Rattle.mf_lines.specs.declared.parts.Act.{Act}
 use Rattle.mf_lines.specs.declared.parts.Act.TheVariants as act
+use Rattle.mf_lines.specs.Meaning.{file_in}
 use Rattle.mf_vault.specs.declared.answers.Pinned.{Pinned}
 use Rattle.mf_vault.specs.declared.answers.Pinned.TheVariants as pinned
 use Rattle.mf_vault.specs.Facts.{Facts, stages}
@@ -140,6 +141,19 @@ IsLost server line other before after = ⊥
 
 -- ---- any command
 
+-- what came of a command on one file
+abbrev pub Comes : Act → Outcome → Actor → Actor → Type 0
+Comes (act.Create file) came = IsCreated came
+Comes (act.Read file away) came = IsReadOut came
+Comes (act.Repair file away) came = IsRepaired came
+Comes (act.Convert file away stop) came = IsConverted stop came
+Comes (act.Reclaim file) came = IsReclaimed came
+Comes (act.Remove file) came = IsRemoved came
+Comes (act.Hold file) came = IsHeld came
+Comes (act.Release file) came = IsReleased came
+Comes (act.Lose server) came = λ a b. ⊥
+Comes act.Sweep came = λ a b. ⊥
+
 -- such a command has no parts
 abbrev pub ActsOn : (file : ℕ) → (Actor → Actor → Type 0) → List Part → List Actor → List Actor → Type 0
 ActsOn file Goes parts before after = (parts ≡ []) × OnFile file Goes before after
@@ -149,16 +163,19 @@ abbrev pub SweepsBy : (policy : Option (List ℕ)) → Outcome → List Part →
 SweepsBy None came parts before after = ⊥
 SweepsBy (Some thresholds) came parts before after = IsSwept thresholds came parts before after
 
+-- what a command that is on no file did
+abbrev pub ActsAlone : (policy : Option (List ℕ)) → (line : ℕ) → Act → Outcome → List Part → List Actor → List Actor
+    → Type 0
+ActsAlone policy line (act.Lose server) came parts before after = (parts ≡ []) × IsLost server line came before after
+ActsAlone policy line act.Sweep came parts before after = SweepsBy policy came parts before after
+ActsAlone policy line other came parts before after = ⊥
+
+-- what a command did that is on this file, or on none
+abbrev pub ActsBy : Option ℕ → (policy : Option (List ℕ)) → (line : ℕ) → Act → Outcome → List Part → List Actor
+    → List Actor → Type 0
+ActsBy (Some file) policy line x came parts before after = ActsOn file (Comes x came) parts before after
+ActsBy None policy line x came parts before after = ActsAlone policy line x came parts before after
+
 -- what the command in this line of a script with this policy did, behind the cutting off
 abbrev pub Acts : (policy : Option (List ℕ)) → (line : ℕ) → Act → Outcome → List Part → List Actor → List Actor → Type 0
-Acts policy line (act.Create file) came parts before after = ActsOn file (IsCreated came) parts before after
-Acts policy line (act.Read file away) came parts before after = ActsOn file (IsReadOut came) parts before after
-Acts policy line (act.Repair file away) came parts before after = ActsOn file (IsRepaired came) parts before after
-Acts policy line (act.Convert file away stop) came parts before after =
-    ActsOn file (IsConverted stop came) parts before after
-Acts policy line (act.Reclaim file) came parts before after = ActsOn file (IsReclaimed came) parts before after
-Acts policy line (act.Remove file) came parts before after = ActsOn file (IsRemoved came) parts before after
-Acts policy line (act.Hold file) came parts before after = ActsOn file (IsHeld came) parts before after
-Acts policy line (act.Release file) came parts before after = ActsOn file (IsReleased came) parts before after
-Acts policy line (act.Lose server) came parts before after = (parts ≡ []) × IsLost server line came before after
-Acts policy line act.Sweep came parts before after = SweepsBy policy came parts before after
+Acts policy line x came parts before after = ActsBy (file_in x) policy line x came parts before after

@@ -17,24 +17,9 @@ use Rattle.mf_client.specs.declared.done.Outcome.{Outcome}
 use Rattle.mf_client.specs.declared.done.Part.{Part}
 use Rattle.mf_client.specs.declared.done.Done.{Done}
 use Rattle.mf_client.specs.Clients.{AreFiles, facts_in, commands_of, family_of}
-use Rattle.mf_client.specs.Acts.{IsCreated, IsReadOut, IsRepaired, IsConverted, IsReclaimed}
-use Rattle.mf_client.specs.Acts.{IsRemoved, IsHeld, IsReleased}
 use Rattle.mf_client.specs.Runs.{RunsFrom, IsSmall}
 use Rattle.mf_client.specs.Sweeps.{Visit, ConvertsInTurn, Visits, VisitsInTurn, is_converted, parts_of, parts_in}
 use Rattle.mf_client.specs.Sweeps.{dues_of}
-
--- what came of a command on one file
-abbrev pub Comes : Act → Outcome → Actor → Actor → Type 0
-Comes (act.Create file) came = IsCreated came
-Comes (act.Read file away) came = IsReadOut came
-Comes (act.Repair file away) came = IsRepaired came
-Comes (act.Convert file away stop) came = IsConverted stop came
-Comes (act.Reclaim file) came = IsReclaimed came
-Comes (act.Remove file) came = IsRemoved came
-Comes (act.Hold file) came = IsHeld came
-Comes (act.Release file) came = IsReleased came
-Comes (act.Lose server) came = λ a b. ⊥
-Comes act.Sweep came = λ a b. ⊥
 
 -- the line is a lose line of the server, up to the end of the phase
 abbrev pub IsLine : (line server : ℕ) → Facts → Type 0

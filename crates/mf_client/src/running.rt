@@ -7,11 +7,11 @@ ghost use Rattle.mf_vault.specs.Actor.{Actor};
 ghost use Rattle.mf_vault.specs.Conditions.{IsIdle, IsOfFamily};
 ghost use Rattle.mf_vault.specs.Counting.{io_of};
 ghost use Rattle.mf_client.specs.declared.done.Done.{Done};
-ghost use Rattle.mf_client.specs.Acts.{Acts, SweepsBy, away_of, cut_all};
+ghost use Rattle.mf_client.specs.Acts.{Acts, Comes, SweepsBy, away_of, cut_all};
 ghost use Rattle.mf_client.specs.OnFile.{OnFile};
 ghost use Rattle.mf_client.specs.Clients.{HasClient, AreFiles, facts_in, family_of};
 ghost use Rattle.mf_client.specs.Runs.{Runs, IsSmall, IsDone, gained, io_gained};
-ghost use Rattle.mf_client.specs.Steps.{Comes, Finds, HasPolicy, AreOfFamily};
+ghost use Rattle.mf_client.specs.Steps.{Finds, HasPolicy, AreOfFamily};
 
 use crate::acting::{
     convert_file, create_file, hold_file, read_file, reclaim_file, release_file, remove_file,

@@ -15,7 +15,7 @@ use Rattle.mf_places.specs.declared.servers.Servers.{Servers}
 use Rattle.mf_lines.specs.declared.parts.Act.{Act}
 use Rattle.mf_lines.specs.declared.parts.Act.TheVariants as act
 use Rattle.mf_lines.specs.declared.parts.Command.{Command}
-use Rattle.mf_lines.specs.Meaning.{Script}
+use Rattle.mf_lines.specs.Meaning.{Script, file_in}
 use Rattle.mf_vault.specs.declared.answers.Got.TheVariants as got
 use Rattle.mf_vault.specs.declared.answers.Pinned.{Pinned}
 use Rattle.mf_vault.specs.declared.answers.Pinned.TheVariants as pinned
@@ -33,7 +33,7 @@ use Rattle.mf_client.specs.OnFile.{OnFile}
 use Rattle.mf_client.specs.Sweeps.{ConvertsInTurn, Visit, Visits, VisitsInTurn, IsSwept}
 use Rattle.mf_client.specs.Runs.{Runs, RunsFrom}
 use Rattle.mf_client.specs.Clients.{commands_of}
-use Rattle.mf_client.specs.Steps.{Comes}
+use Rattle.mf_client.specs.Acts.{Comes, ActsBy}
 use Rattle.mf_client.proofs.Went.{comes_does}
 
 tried_share : (f : Facts) (slot : Slot) (gs : List ℕ) (p : Pinned) (v : View) → (tried f slot gs p v).share ≡ v.share
@@ -136,22 +136,16 @@ sweep_shares : (policy : Option (List ℕ)) (o : Outcome) (parts : List Part) (b
 sweep_shares None o parts before after x = absurd x
 sweep_shares (Some thresholds) o parts before after x = swept_shares thresholds o parts before after x
 
+shares_by : (f : Option ℕ) (policy : Option (List ℕ)) (line : ℕ) (x : Act) (o : Outcome) (parts : List Part)
+    (before after : List Actor) → ActsBy f policy line x o parts before after → shares after ≡ shares before
+shares_by (Some file) policy line x o parts before after h = on_shares x o file before after h.1
+shares_by None policy line (act.Lose server) o parts before after h = lost_shares server line o before after h.1
+shares_by None policy line act.Sweep o parts before after h = sweep_shares policy o parts before after h
+shares_by None policy line other o parts before after h = absurd h
+
 acts_shares : (policy : Option (List ℕ)) (line : ℕ) (x : Act) (o : Outcome) (parts : List Part)
-    (before after : List Actor)
-    → Acts policy line x o parts before after → shares after ≡ shares before
-acts_shares policy line (act.Create file) o parts before after x = on_shares (act.Create file) o file before after x.1
-acts_shares policy line (act.Read file away) o parts before after x = on_shares (act.Read file away) o file before after
-    x.1
-acts_shares policy line (act.Repair file away) o parts before after x =
-    on_shares (act.Repair file away) o file before after x.1
-acts_shares policy line (act.Convert file away stop) o parts before after x =
-    on_shares (act.Convert file away stop) o file before after x.1
-acts_shares policy line (act.Reclaim file) o parts before after x = on_shares (act.Reclaim file) o file before after x.1
-acts_shares policy line (act.Remove file) o parts before after x = on_shares (act.Remove file) o file before after x.1
-acts_shares policy line (act.Hold file) o parts before after x = on_shares (act.Hold file) o file before after x.1
-acts_shares policy line (act.Release file) o parts before after x = on_shares (act.Release file) o file before after x.1
-acts_shares policy line (act.Lose server) o parts before after x = lost_shares server line o before after x.1
-acts_shares policy line act.Sweep o parts before after x = sweep_shares policy o parts before after x
+    (before after : List Actor) → Acts policy line x o parts before after → shares after ≡ shares before
+acts_shares policy line x o parts before after h = shares_by (file_in x) policy line x o parts before after h
 
 cut_shares : (away : Servers) (before : List Actor) → shares (cut_all away before) ≡ shares before
 cut_shares away [] = refl

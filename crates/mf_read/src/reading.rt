@@ -6,7 +6,7 @@ ghost use Rattle.std.specs.declared.vec.Vec.{Vec};
 ghost use Rattle.mf_shape.specs.Stages.{width_at};
 ghost use Rattle.mf_machine.specs.declared.answer.Slot.TheVariants.{Work};
 ghost use Rattle.mf_vault.specs.May.{MayPin};
-ghost use Rattle.mf_vault.specs.Conditions.{IsOfFamily};
+ghost use Rattle.mf_vault.specs.Conditions.{IsIdle, IsOfFamily, Leaves};
 ghost use Rattle.mf_vault.specs.Facts.{stages};
 ghost use Rattle.mf_read.specs.Groups.{IsReader, asks_in};
 ghost use Rattle.mf_read.specs.Reading.{Reads, bears};
@@ -210,7 +210,9 @@ pub fn read<A: Fetch>(alloc: Global, access: &mut A, family: &Family) -> ReadOut
     requires free { MayPin Work (A.actor access.old) }
     requires family { IsOfFamily family.now.shape family.now.points
         (A.actor access.old).facts.book }
-    ensures { Reads result (A.actor access.old) (A.actor access.new) }
+    ensures reads { Reads result (A.actor access.old) (A.actor access.new) }
+    ensures leaves { IsIdle (A.actor access.old)
+        → Leaves (A.actor access.old) (A.actor access.new) }
 {
     let mut bytes = Vec::new(alloc);
     let outcome = read_into(alloc, access, family, &mut PlanCache::none(), &mut bytes);

@@ -1,4 +1,0 @@
-use Rattle.mf_lives.proofs.conversions.created.Goals as goal
-
-pub returns : goal.returns
-returns g c = c.create.ensures.leaves

@@ -1,5 +1,0 @@
-use Rattle.mf_lives.specs.Mendings.{IsFileOf}
-use Rattle.mf_lives.proofs.mendings.lose_all.Given as goal
-
-abbrev pub invariant-loop-server : goal.invariant-loop-server
-invariant-loop-server l = IsFileOf l.fn.plain.book l.fn.plain.bytes l.losses l.plain

@@ -1,7 +1,0 @@
-use Rattle.mf_lives.proofs.Following.{able_on, follows_on}
-use Rattle.mf_lives.proofs.racing.act.Goals as goal
-
-pub take-requires : goal.take-requires
-take-requires g c =
-    able_on c.args.family.now c.args.bytes.now (record { idle = c.requires.idle; tried = c.requires.tried })
-    c.loop.invariant

@@ -1,5 +1,0 @@
-use Rattle.mf_lives.proofs.Visited.{stays_on}
-use Rattle.mf_lives.proofs.racing.run.Goals as goal
-
-pub loop-preserved : goal.loop-preserved
-loop-preserved g c = stays_on c.loop.invariant c.in_ok-seat.ensures

@@ -1,6 +1,0 @@
-use Rattle.mf_lives.proofs.Following.{follows_on, cut_follows, created_follows}
-use Rattle.mf_lives.proofs.turns.create_file.Goals as goal
-
-pub returns : goal.returns
-returns g c = let x = cut_follows c.requires.idle c.cut_off.ensures.goes in
-    follows_on x (created_follows x.idle c.create.ensures.licence)

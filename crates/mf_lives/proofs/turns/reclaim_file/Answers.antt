@@ -1,5 +1,0 @@
-use Rattle.mf_lives.proofs.Following.{follows}
-use Rattle.mf_lives.proofs.turns.reclaim_file.Goals as goal
-
-pub returns : goal.returns
-returns g c = follows c.reclaim.ensures.licence.does c.reclaim.ensures.leaves.idle

@@ -1,5 +1,0 @@
-use Rattle.mf_lives.proofs.Following.{removed_follows}
-use Rattle.mf_lives.proofs.turns.remove_file.Goals as goal
-
-pub returns : goal.returns
-returns g c = removed_follows c.requires.idle c.remove.ensures.licence

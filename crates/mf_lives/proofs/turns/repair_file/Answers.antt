@@ -1,5 +1,0 @@
-use Rattle.mf_lives.proofs.Following.{follows}
-use Rattle.mf_lives.proofs.turns.repair_file.Goals as goal
-
-pub returns : goal.returns
-returns g c = follows c.repair.ensures.licence.does c.repair.ensures.leaves.idle

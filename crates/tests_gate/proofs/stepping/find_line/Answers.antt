@@ -1,8 +1,8 @@
 use Rattle.std.proofs.Common.{◌<◌, get_or, subst}
 use Rattle.mf_machine.specs.File.{listed}
 use Rattle.mf_vault.specs.Facts.{lines}
-use Rattle.mf_races.proofs.Lines.{any_line, line_at}
-use Rattle.mf_races.proofs.stepping.find_line.Goals as goal
+use Rattle.tests_gate.proofs.Lines.{any_line, line_at}
+use Rattle.tests_gate.proofs.stepping.find_line.Goals as goal
 
 pub returns-then-entry-server : goal.returns-then-entry-server
 returns-then-entry-server c = let xs = c.args.entries.now in let i = c.loop-entry.entry-index in

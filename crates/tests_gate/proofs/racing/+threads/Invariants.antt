@@ -1,5 +1,5 @@
 use Rattle.std.proofs.Common.{◌+◌, ◌*◌}
-use Rattle.mf_races.proofs.racing.+threads.Given as goal
+use Rattle.tests_gate.proofs.racing.+threads.Given as goal
 
 abbrev pub decreases-front : goal.decreases-front
 decreases-front g l = 2 * l.half + 1

@@ -1,7 +1,7 @@
 use Rattle.std.proofs.lemmas.Result.{IfOk-at_ok}
-use Rattle.mf_races.specs.Frames.{Moves}
-use Rattle.mf_races.proofs.Shares.{joined_again, placed_on}
-use Rattle.mf_races.proofs.racing.+threads.Goals as goal
+use Rattle.tests_gate.specs.Frames.{Moves}
+use Rattle.tests_gate.proofs.Shares.{joined_again, placed_on}
+use Rattle.tests_gate.proofs.racing.+threads.Goals as goal
 
 pub join-requires-clause-first : goal.join-requires-clause-first
 join-requires-clause-first g t c = placed_on (IfOk-at_ok (λ side. Moves 0 0 c.split-other.new.pass side.pass

@@ -1,6 +1,6 @@
 use Rattle.std.proofs.Common.{◌≡◌, ◌+◌, length}
-use Rattle.mf_races.specs.Frames.{AreCells, Moves}
-use Rattle.mf_races.proofs.stepping.cells_in.Given as goal
+use Rattle.tests_gate.specs.Frames.{AreCells, Moves}
+use Rattle.tests_gate.proofs.stepping.cells_in.Given as goal
 
 abbrev pub invariant-loop-n : goal.invariant-loop-n
 invariant-loop-n l = record {

@@ -3,8 +3,8 @@ use Rattle.mf_machine.specs.Actors.{Among}
 use Rattle.mf_machine.specs.File.{Holds}
 use Rattle.mf_gate.specs.Passes.{about, view}
 use Rattle.mf_gate.specs.Table.{file_of}
-use Rattle.mf_races.specs.Frames.{Builds, Moves}
-use Rattle.mf_races.proofs.stepping.settle_all.Given as goal
+use Rattle.tests_gate.specs.Frames.{Builds, Moves}
+use Rattle.tests_gate.proofs.stepping.settle_all.Given as goal
 
 abbrev pub invariant-loop-n : goal.invariant-loop-n
 invariant-loop-n l = record {

@@ -1,8 +1,8 @@
 use Rattle.std.proofs.Common.{false, [], ◌∷◌, sym}
 use Rattle.std.proofs.Common.{subst}
 use Rattle.mf_gate.specs.Resting.{AtRest, about_of}
-use Rattle.mf_races.proofs.TwoBytes.{rests}
-use Rattle.mf_races.proofs.making.new_site.Goals as goal
+use Rattle.tests_gate.proofs.TwoBytes.{rests}
+use Rattle.tests_gate.proofs.making.new_site.Goals as goal
 
 pub new-made-requires : goal.new-made-requires
 new-made-requires c =

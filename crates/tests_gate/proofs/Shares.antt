@@ -5,7 +5,7 @@ use Rattle.mf_machine.specs.Steps.{old_half, new_half}
 use Rattle.mf_gate.specs.declared.gate.Gate.{Gate}
 use Rattle.mf_gate.specs.declared.gate.Pass.{Pass}
 use Rattle.mf_gate.specs.Passes.{view}
-use Rattle.mf_races.specs.Frames.{Frame, IsPlaced, Moves, placed}
+use Rattle.tests_gate.specs.Frames.{Frame, IsPlaced, Moves, placed}
 
 pub placed_on : {h r : ℕ} {p p' : Pass} {g : Gate} → Moves h r p p' g → IsPlaced h r p' g
 placed_on {h = h} {r = r} m = record {

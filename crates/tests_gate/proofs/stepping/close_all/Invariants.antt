@@ -3,8 +3,8 @@ use Rattle.mf_machine.specs.Actors.{Shown}
 use Rattle.mf_machine.specs.File.{Holds}
 use Rattle.mf_gate.specs.Passes.{about, view}
 use Rattle.mf_gate.specs.Table.{file_of}
-use Rattle.mf_races.specs.Frames.{Moves}
-use Rattle.mf_races.proofs.stepping.close_all.Given as goal
+use Rattle.tests_gate.specs.Frames.{Moves}
+use Rattle.tests_gate.proofs.stepping.close_all.Given as goal
 
 abbrev pub invariant-loop-g : goal.invariant-loop-g
 invariant-loop-g l = record {

@@ -12,7 +12,7 @@ use Rattle.mf_code.specs.Field.{times, remainder, carryless, power}
 use Rattle.mf_code.specs.Sums.{sum_below}
 use Rattle.mf_gate.specs.Resting.{AtRest}
 use Rattle.mf_gate.specs.Table.{facts_of, file_of}
-use Rattle.mf_races.specs.Files.{file_ab}
+use Rattle.tests_gate.specs.Files.{file_ab}
 
 seven : (ls : List LoseLine) → (file_of (file_ab ls)).names ≡ 7
 unfolding count_of all_names data_names copies_named copy_names stripe_parities width_parities parity_names

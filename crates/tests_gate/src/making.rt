@@ -3,8 +3,8 @@ ghost use Rattle.std.specs.Prelude.{◌≡◌, [], ◌∷◌, IfOk};
 ghost use Rattle.mf_machine.specs.Words.{whole_share};
 ghost use Rattle.mf_vault.specs.declared.answers.Rest.TheVariants as rest;
 ghost use Rattle.mf_gate.specs.Passes.{view};
-ghost use Rattle.mf_races.specs.Files.{book_ab, names_ab};
-ghost use Rattle.mf_races.specs.Frames.{IsPlaced};
+ghost use Rattle.tests_gate.specs.Files.{book_ab, names_ab};
+ghost use Rattle.tests_gate.specs.Frames.{IsPlaced};
 
 use crate::site::{SERVERS, Site, line_of};
 use mf_gate::{Gate, Pass};

@@ -7,7 +7,7 @@ ghost use Rattle.mf_places.specs.Names.{count_of};
 ghost use Rattle.mf_vault.specs.Facts.{lines};
 ghost use Rattle.mf_gate.specs.Passes.{IsAt, about, file, view};
 ghost use Rattle.mf_gate.specs.Table.{file_of};
-ghost use Rattle.mf_races.specs.Frames.{AreCells, Builds, IsPlaced, IsSettled, Moves, Shows};
+ghost use Rattle.tests_gate.specs.Frames.{AreCells, Builds, IsPlaced, IsSettled, Moves, Shows};
 
 use crate::site::{CHUNKS, Site};
 use crate::tally::{Tally, bump};

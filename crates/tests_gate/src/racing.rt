@@ -1,7 +1,7 @@
 //! Eight threads make random steps on one gate.
 ghost use Rattle.std.specs.Prelude.{◌≡◌, ◌+◌, ◌≤◌, IfOk};
 ghost use Rattle.mf_gate.specs.Passes.{view};
-ghost use Rattle.mf_races.specs.Frames.{AreCells, IsPlaced, Moves};
+ghost use Rattle.tests_gate.specs.Frames.{AreCells, IsPlaced, Moves};
 
 use crate::draws::below;
 use crate::site::Site;

@@ -22,6 +22,8 @@ def cases():
         Case('create and read', ['run'], first.encode()),
         Case('as JSON', ['run', '--json'], first.encode()),
         Case('needs', ['run'], (BASE + 'create a\nlose 0\nconvert a\nrepair a\nconvert a\ndump a\nend').encode()),
+        Case('a conversion that stops', ['run'],
+             (BASE + 'create a\nconvert a stop 9\nread a\nconvert a\ndump a\nend').encode()),
         Case('a life', ['run'], (BASE + LIFE).encode()),
         Case('two clients', ['run'], text_of('examples/races/together.morph')),
         Case('a sweep', ['run'], SWEEP.encode()),

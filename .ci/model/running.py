@@ -95,7 +95,8 @@ class Run:
             return self._sweep(done, holds, [])
         hand = Hand(self.files[command.file], holds, command.away, done.io, budget)
         if command.verb == 'convert':
-            return engines.convert(hand, len(self.script.stages) - 1, command.stop)
+            stop = command.stop if budget is None else None
+            return engines.convert(hand, len(self.script.stages) - 1, stop)
         return getattr(engines, command.verb)(hand)
 
     def _lose(self, command):
@@ -136,6 +137,8 @@ class Run:
                 return
             if command.verb in ('create', 'reclaim', 'lose', 'sweep'):
                 raise Strange(f'{done.place}: {command.verb} lacked memory and did something')
+            if command.verb == 'convert' and command.stop is not None and sum(told.io) > command.stop:
+                raise Strange(f'{done.place}: more operations than it may make before it stops')
             try:
                 self._act(done, command, holds, sum(told.io))
             except Refusal as refusal:

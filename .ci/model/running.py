@@ -142,7 +142,9 @@ class Run:
             try:
                 self._act(done, command, holds, sum(told.io))
             except Refusal as refusal:
-                if str(refusal) != MEMORY:
+                # The answer of a short asking has a list, which takes memory when the last get is done.
+                is_short = command.verb in ('read', 'repair') and str(refusal).startswith(('datalost', 'unreachable'))
+                if str(refusal) != MEMORY and not is_short:
                     raise Strange(f'{done.place}: says {refusal} before it lacks memory') from refusal
             return
         self._lacking_sweep(done, holds, told)

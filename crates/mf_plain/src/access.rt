@@ -1,11 +1,10 @@
 //! The access of a file's only actor.
-ghost use Rattle.std.specs.Prelude.{◌≡◌, ◌==◌, if◌then◌else◌};
 ghost use Rattle.mf_plain.specs.Alone.{stored};
 ghost use Rattle.mf_plain.specs.Standing.{Stands};
 
 use crate::known::Known;
 use crate::plain::Plain;
-use mf_vault::{Book, Entry, Losses, Note, Rest, Servers};
+use mf_vault::{Book, Entry, Losses, Note, Rest, Servers, birth};
 use std::alloc::Global;
 
 /// The access of a file's only actor, over a file in memory.
@@ -91,11 +90,4 @@ impl PlainAccess {
     {
         let _ = self;
     }
-}
-
-// The ticks at a file's creation, or these where it isn't created.
-fn birth(published: u32, now: u64, born: u64) -> u64
-    ensures { result ≡ (if published == 0 then now else born) }
-{
-    if published == 0 { now } else { born }
 }

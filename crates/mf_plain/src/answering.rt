@@ -1,13 +1,11 @@
 //! What is stored of a name, a slot and a generation, and what it answers.
-ghost use Rattle.std.specs.Prelude.{◌≡◌, ◌≢◌, ◌⊎◌, ◌+◌, ◌*◌, ◌<◌, ◌≤◌, ℕ, List, [], ◌∷◌, ◌++◌};
-ghost use Rattle.std.specs.Prelude.{length, vec_capacity};
+ghost use Rattle.std.specs.Prelude.{◌≡◌, ◌+◌, ◌*◌, ◌<◌, ◌≤◌};
 ghost use Rattle.mf_machine.specs.Actors.{has};
 ghost use Rattle.mf_machine.specs.Counts.{truth};
 ghost use Rattle.mf_machine.specs.Steps.{see_answer, close_answer, drop_answer, lose_answer};
 ghost use Rattle.mf_machine.specs.Words.{closed_bit, removed_of};
 ghost use Rattle.mf_places.specs.Names.{HasName, count_of};
 ghost use Rattle.mf_places.specs.Numbers.{number_of};
-ghost use Rattle.mf_vault.specs.Actor.{state_answer, change_answer, get_entry};
 ghost use Rattle.mf_vault.specs.Facts.{place};
 ghost use Rattle.mf_vault.specs.Answers.{IsNumber, was_dropped, was_lost};
 ghost use Rattle.mf_vault.specs.Resting.{word_of};
@@ -15,17 +13,7 @@ ghost use Rattle.mf_plain.specs.Stored.{pinned_hold, pinned_work, freed_hold, fr
 ghost use Rattle.mf_plain.specs.Stored.{dropped_of, lost_of, IsThere, GotOf};
 ghost use Rattle.mf_vault.specs.declared.answers.Rest.TheVariants as rest;
 
-use mf_vault::{Answer, Book, Closed, Entry, Got, Name, Op, Pinned, Rest, Slot, State};
-
-pub(crate) fn append(ledger: &mut Vec<Entry>, entry: Entry)
-    requires { length ledger.old.items < vec_capacity ledger.old }
-    ensures items { ledger.new.items ≡ ledger.old.items ++ entry ∷ [] }
-    ensures capacity { vec_capacity ledger.old ≤ vec_capacity ledger.new }
-{
-    if ledger.push(entry).is_err() {
-        unreachable!()
-    }
-}
+use mf_vault::{Book, Closed, Got, Name, Pinned, Rest, Slot, State};
 
 /// The number of a name that the file has.
 pub(crate) fn place_of(book: &Book, name: Name) -> usize
@@ -127,23 +115,6 @@ pub(crate) fn state_of(state: &Rest) -> State
     }
 }
 
-pub(crate) fn told(state: State) -> Answer
-    ensures { result ≡ state_answer state }
-{
-    match state {
-        State::Unborn => Answer::Unborn,
-        State::Here => Answer::Here,
-        State::Lost(line) => Answer::Lost(line),
-        State::Away(server) => Answer::Away(server),
-    }
-}
-
-pub(crate) fn changed(yes: bool) -> Answer
-    ensures { result ≡ change_answer yes }
-{
-    if yes { Answer::Done } else { Answer::Nothing }
-}
-
 /// The chunk of a name that is Here or Lost.
 pub(crate) fn got_of(state: &Rest) -> Got
     requires { IsThere state.now }
@@ -158,28 +129,6 @@ pub(crate) fn got_of(state: &Rest) -> Got
         Rest::Unborn => unreachable!(),
         Rest::Dropped => unreachable!(),
     }
-}
-
-/// Enters a get, unless it wanted memory.
-pub(crate) fn enter_get(ledger: &mut Vec<Entry>, name: Name, got: &Got)
-    requires { length ledger.old.items < vec_capacity ledger.old }
-    ensures items { ledger.new.items ≡ ledger.old.items ++ get_entry name got.now }
-    ensures capacity { vec_capacity ledger.old ≤ vec_capacity ledger.new }
-{
-    let answer = match got {
-        Got::Here(_) => Answer::Here,
-        Got::Lost(line) => Answer::Lost(*line),
-        Got::Away(server) => Answer::Away(*server),
-        Got::Memory => return,
-    };
-    append(
-        ledger,
-        Entry::Chunk {
-            op: Op::Get,
-            name,
-            answer,
-        },
-    );
 }
 
 /// Drops what is Here or Lost, and answers whether it was.

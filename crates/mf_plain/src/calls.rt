@@ -3,11 +3,12 @@ ghost use Rattle.std.specs.Prelude.{◌≡◌, ◌≢◌, ◌<◌, ◌≤◌, �
 
 use crate::access::PlainAccess;
 use crate::answering::{
-    append, changed, close_by, drop_rest, hold_after, hold_without, pinned_by, place_of,
-    shut_after, state_of, told, work_after, work_without,
+    close_by, drop_rest, hold_after, hold_without, pinned_by, place_of, shut_after, work_after,
+    work_without,
 };
 use mf_vault::{
-    Access, Book, Chunk, Closed, Entry, Memory, Name, Note, Op, Pinned, Rest, Servers, Slot, State,
+    Access, Answer, Book, Chunk, Closed, Entry, Memory, Name, Note, Op, Pinned, Rest, Servers,
+    Slot, State, append, enter,
 };
 
 impl Access for PlainAccess {
@@ -80,14 +81,7 @@ impl Access for PlainAccess {
     fn probe(&mut self, name: Name) -> State {
         let state = self.state(name);
         let note = Note::pick(&(name, state, &*self));
-        append(
-            &mut self.ledger,
-            Entry::Chunk {
-                op: Op::Probe,
-                name,
-                answer: told(state),
-            },
-        );
+        enter(&mut self.ledger, Op::Probe, name, Answer::told(state));
         self.known = note;
         state
     }
@@ -96,14 +90,7 @@ impl Access for PlainAccess {
         let n = place_of(&self.book, name);
         let known = Note::pick(&(name, &*self));
         self.names[n] = Rest::Here(bytes);
-        append(
-            &mut self.ledger,
-            Entry::Chunk {
-                op: Op::Put,
-                name,
-                answer: changed(true),
-            },
-        );
+        enter(&mut self.ledger, Op::Put, name, Answer::changed(true));
         self.known = known;
     }
 
@@ -111,14 +98,7 @@ impl Access for PlainAccess {
         let at = place_of(&self.book, name);
         let known = Note::pick(&(name, &*self));
         self.names[at] = Rest::Here(bytes);
-        append(
-            &mut self.ledger,
-            Entry::Chunk {
-                op: Op::Restore,
-                name,
-                answer: changed(true),
-            },
-        );
+        enter(&mut self.ledger, Op::Restore, name, Answer::changed(true));
         self.known = known;
     }
 
@@ -142,14 +122,7 @@ impl Access for PlainAccess {
         let n = place_of(&self.book, name);
         let known = Note::pick(&(name, &*self));
         let yes = drop_rest(&mut self.names[n]);
-        append(
-            &mut self.ledger,
-            Entry::Chunk {
-                op: Op::Discard,
-                name,
-                answer: changed(yes),
-            },
-        );
+        enter(&mut self.ledger, Op::Discard, name, Answer::changed(yes));
         self.known = known;
         yes
     }

@@ -9,8 +9,8 @@ ghost use Rattle.mf_vault.specs.Resting.{word_of};
 ghost use Rattle.mf_vault.specs.declared.answers.Rest.TheVariants as rest;
 
 use crate::access::PlainAccess;
-use crate::answering::{append, changed, enter_get, got_of, lose_rest, pin_of, place_of, state_of};
-use mf_vault::{Entry, Fetch, Got, Name, Note, Op, State};
+use crate::answering::{got_of, lose_rest, pin_of, place_of, state_of};
+use mf_vault::{Answer, Fetch, Got, Name, Note, Op, State, enter, enter_get};
 
 impl PlainAccess {
     ghost use Rattle.mf_plain.specs.Found.{StateIn, GotIn, IsThereIn};
@@ -63,14 +63,7 @@ impl Fetch for PlainAccess {
         let n = place_of(&self.book, name);
         let known = Note::pick(&(name, line, &*self));
         let yes = lose_rest(&mut self.names[n], line);
-        append(
-            &mut self.ledger,
-            Entry::Chunk {
-                op: Op::Lose,
-                name,
-                answer: changed(yes),
-            },
-        );
+        enter(&mut self.ledger, Op::Lose, name, Answer::changed(yes));
         self.known = known;
         yes
     }

@@ -6,12 +6,12 @@ use mathlib.Core.Option.{some, some-injective, some-ne-none}
 use lib.ListN.{get_elem?}
 use Rattle.mf_machine.specs.declared.view.Met.{Met}
 use Rattle.mf_machine.specs.declared.view.View.{View}
-use Rattle.mf_machine.specs.Actors.{Among, HasRight, HasLooked, LastLooked, SawShut, Free, IsDropping, live, PinHolds}
+use Rattle.mf_machine.specs.Actors.{Among, HasRight, HasLooked, LastLooked, SawShut, Free, IsDropping, live}
 use Rattle.mf_machine.specs.Actors.{IsBearing, IsRetaking}
 use Rattle.mf_machine.specs.Answers as answer
 use Rattle.mf_machine.specs.Answers.{Answer, often}
 use Rattle.mf_machine.specs.File.{File, Opening, State, Holds}
-use Rattle.mf_machine.specs.Kept.{IsActor, IsClosed, IsMetOf, HasSeen, IsBorn, IsInside, HasTaken, Cause, Kept}
+use Rattle.mf_machine.specs.Kept.{IsActor, IsClosed, IsMetOf, HasSeen, IsBorn, HasTaken, Cause, Kept}
 use Rattle.mf_machine.specs.Laws.{alone}
 use Rattle.mf_machine.specs.Sums.{in_birth, in_retake, in_lose, in_drop}
 use Rattle.mf_machine.specs.Words.{IsLost}

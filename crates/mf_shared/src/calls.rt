@@ -2,9 +2,9 @@
 ghost use Rattle.std.specs.Prelude.{◌≡◌};
 
 use crate::access::SharedAccess;
-use crate::answering::{append, changed, told};
 use mf_vault::{
-    Access, Book, Chunk, Closed, Entry, Memory, Name, Op, Pinned, Servers, Slot, State,
+    Access, Answer, Book, Chunk, Closed, Entry, Memory, Name, Op, Pinned, Servers, Slot, State,
+    append, enter,
 };
 
 impl<'a, R> SharedAccess<'a, R> {
@@ -139,44 +139,20 @@ impl<'a, R> Access for SharedAccess<'a, R> {
 
     fn probe(&mut self, name: Name) -> State {
         let state = self.state(name);
-        let answer = told(state);
-        append(
-            &mut self.ledger,
-            Entry::Chunk {
-                op: Op::Probe,
-                name,
-                answer,
-            },
-        );
+        enter(&mut self.ledger, Op::Probe, name, Answer::told(state));
         state
     }
 
     fn put(&mut self, name: Name, bytes: Chunk) {
         let n = self.number(name);
         self.shared.gate.birth(&mut self.pass, n, bytes);
-        let answer = changed(true);
-        append(
-            &mut self.ledger,
-            Entry::Chunk {
-                op: Op::Put,
-                name,
-                answer,
-            },
-        );
+        enter(&mut self.ledger, Op::Put, name, Answer::changed(true));
     }
 
     fn restore(&mut self, name: Name, bytes: Chunk) {
         let n = self.number(name);
         self.shared.gate.retake(&mut self.pass, n, bytes);
-        let answer = changed(true);
-        append(
-            &mut self.ledger,
-            Entry::Chunk {
-                op: Op::Restore,
-                name,
-                answer,
-            },
-        );
+        enter(&mut self.ledger, Op::Restore, name, Answer::changed(true));
     }
 
     fn publish(&mut self, next: u32) {
@@ -192,15 +168,7 @@ impl<'a, R> Access for SharedAccess<'a, R> {
     fn discard(&mut self, name: Name) -> bool {
         let n = self.number(name);
         let yes = self.shared.gate.drop_name(&mut self.pass, n);
-        let answer = changed(yes);
-        append(
-            &mut self.ledger,
-            Entry::Chunk {
-                op: Op::Discard,
-                name,
-                answer,
-            },
-        );
+        enter(&mut self.ledger, Op::Discard, name, Answer::changed(yes));
         yes
     }
 

@@ -7,10 +7,10 @@ ghost use Rattle.mf_shared.specs.Parts.{IsMade, TriesGet, TriesLose};
 ghost use Rattle.mf_shared.specs.Whole.{told_by};
 
 use crate::access::SharedAccess;
-use crate::answering::{append, changed, enter_get, shared};
+use crate::answering::shared;
 use mf_gate::Taken;
 use mf_machine::LoseStep;
-use mf_vault::{Entry, Fetch, Got, Name, Op};
+use mf_vault::{Answer, Fetch, Got, Name, Op, enter, enter_get};
 use std::sync::Wait;
 
 impl<'a, R> SharedAccess<'a, R> {
@@ -101,15 +101,7 @@ impl<'a, R: Wait> Fetch for SharedAccess<'a, R> {
 
     fn lose(&mut self, name: Name, line: u32) -> bool {
         let yes = self.lost(name, line);
-        let answer = changed(yes);
-        append(
-            &mut self.ledger,
-            Entry::Chunk {
-                op: Op::Lose,
-                name,
-                answer,
-            },
-        );
+        enter(&mut self.ledger, Op::Lose, name, Answer::changed(yes));
         yes
     }
 }

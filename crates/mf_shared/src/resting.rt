@@ -11,7 +11,7 @@ use crate::seat::Seat;
 use crate::shared::Shared;
 use mf_gate::Gate;
 use mf_plain::{Parts, Plain};
-use mf_vault::{Losses, Note};
+use mf_vault::{Losses, Note, birth};
 use std::alloc::Global;
 
 impl Shared {
@@ -118,11 +118,4 @@ impl Shared {
             told,
         })
     }
-}
-
-// The ticks at a file's creation, or these where it isn't created.
-fn birth(published: u32, now: u64, born: u64) -> u64
-    ensures { result ≡ (if published == 0 then now else born) }
-{
-    if published == 0 { now } else { born }
 }

@@ -1,9 +1,8 @@
 -- What calls add to Made and Met.
-use Rattle.std.proofs.Common.{◌≡◌, ℕ, ◌+◌, ◌≤◌, Bool, true, false, List, [], ◌∷◌, ◌++◌, Some, IfSome, sym, refl, ap}
-use Rattle.std.proofs.Common.{◌∙◌, subst, arith, cond}
+use Rattle.std.proofs.Common.{◌≡◌, ℕ, ◌+◌, ◌≤◌, true, false, List, [], ◌∷◌, ◌++◌, sym, refl, ap}
+use Rattle.std.proofs.Common.{◌∙◌, subst, arith}
 use mathlib.Core.Logic.{dite}
 use native.Mathlib.Decide.{ℕ_discrete}
-use Rattle.mf_machine.specs.declared.answer.Closed.{Closed}
 use Rattle.mf_machine.specs.declared.answer.Closed.TheVariants as closing
 use Rattle.mf_machine.specs.declared.answer.Slot.{Slot}
 use Rattle.mf_machine.specs.declared.answer.Slot.TheVariants.{Hold, Work}
@@ -15,7 +14,6 @@ use Rattle.mf_machine.specs.Answers as said
 use Rattle.mf_machine.specs.Answers.{Answer, often}
 use Rattle.mf_machine.specs.Counts.{bit, times, losses}
 use Rattle.mf_machine.specs.Steps as row
-use Rattle.mf_machine.specs.Worlds.{World, word_of}
 use Rattle.mf_vault.specs.declared.answers.Entry.{Entry}
 use Rattle.mf_vault.specs.declared.answers.Got.TheVariants as got
 use Rattle.mf_vault.specs.declared.answers.Pinned.{Pinned}
@@ -24,12 +22,11 @@ use Rattle.mf_vault.specs.Actor.{Actor, Call, did, seen, tried, entry_of}
 use Rattle.mf_vault.specs.Actor as call
 use Rattle.mf_vault.specs.Facts.{Facts}
 use Rattle.mf_vault.specs.Gains.{tells, tells_loss, tells_pins, sum_told, pins_met, beside, publishes, sum_calls}
-use Rattle.mf_vault.specs.Gains.{MadeGains, MetGains, IsWhole, FreeAtCloses, LeaveWork, opens}
-use Rattle.mf_vault.specs.Laws.{EntriesTell, PinsAreLooked, WorkStaysFree, NeverRefused}
-use Rattle.mf_vault.specs.Licence.{Does, did_all, entries_of}
+use Rattle.mf_vault.specs.Gains.{MadeGains, MetGains, IsWhole, LeaveWork, opens}
+use Rattle.mf_vault.specs.Laws.{EntriesTell, PinsAreLooked, WorkStaysFree}
+use Rattle.mf_vault.specs.Licence.{did_all, entries_of}
 use Rattle.mf_machine.proofs.Lists.{bit_is, bit_not, bit_le}
 use Rattle.mf_vault.proofs.Growing.{tried_made}
-use Rattle.mf_vault.proofs.Once.{told_in}
 
 -- sums over entries
 pub told_append : (h : Entry → ℕ) (xs ys : List Entry) → sum_told h (xs ++ ys) ≡ sum_told h xs + sum_told h ys

@@ -1,6 +1,6 @@
 -- What calls add to their actor's Made and Met: just what their entries say, the numbers that were looked at and
 -- published, the begins, the pins, and a Here for each get that ended for want of memory.
-use Rattle.std.specs.Prelude.{◌≡◌, ℕ, ◌+◌, ◌≤◌, ◌==◌, true, false, List, [], ◌∷◌, cond}
+use Rattle.std.specs.Prelude.{◌≡◌, ℕ, ◌+◌, ◌==◌, true, false, List, [], ◌∷◌, cond}
 use Rattle.mf_machine.specs.declared.answer.Closed.TheVariants as closed
 use Rattle.mf_machine.specs.declared.answer.Slot.TheVariants.{Work}
 use Rattle.mf_machine.specs.declared.view.Refusal.{Refusal}

@@ -24,19 +24,23 @@
 
 mod access;
 mod answers;
+mod created;
 mod fetch;
 mod io;
 mod law;
+mod ledger;
 mod note;
 
 pub use access::Access;
 pub use answers::{Answer, Entry, Got, Op, Pinned, Rest};
+pub use created::birth;
 pub use fetch::Fetch;
 pub use io::{Io, count_io};
 pub use law::{
     alone_has_one_answer, alone_is_never_refused, entries_tell, pins_are_looked_at,
     seen_only_grows, work_stays_free,
 };
+pub use ledger::{append, enter, enter_get};
 pub use mf_kernel::{Chunk, Memory};
 pub use mf_machine::{Closed, Slot, State};
 pub use mf_places::{Book, LoseLine, Losses, Name, Servers};

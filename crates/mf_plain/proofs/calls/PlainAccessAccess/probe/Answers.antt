@@ -12,7 +12,7 @@ invariant_of-self c = let s = c.args.self.now in record {
       stands_after s.stands (named.probes s.stands c.args.name c.state-state.result c.requires.may
       (code.found s c.args.name c.state-state.result c.state-state.ensures)) c.pick-note.ensures
       (code.entered op.Probe c.args.name c.told.result (state_answer c.state-state.result) s.ledger.items
-      c.append.new.ledger.items c.append.ensures.items c.told.ensures) refl;
+      c.enter.new.ledger.items c.enter.ensures.items c.told.ensures) refl;
 }
 
 pub returns-clause-goes : goal.returns-clause-goes
@@ -20,4 +20,4 @@ returns-clause-goes c = let s = c.args.self.now in
     goes_after s.stands (named.probes s.stands c.args.name c.state-state.result c.requires.may
     (code.found s c.args.name c.state-state.result c.state-state.ensures)) c.pick-note.ensures
     (code.entered op.Probe c.args.name c.told.result (state_answer c.state-state.result) s.ledger.items
-    c.append.new.ledger.items c.append.ensures.items c.told.ensures) refl
+    c.enter.new.ledger.items c.enter.ensures.items c.told.ensures) refl

@@ -10,7 +10,7 @@ invariant_of-self c = let s = c.args.self.now in record {
   stands =
       stands_after s.stands (code.puts s c.args.name c.args.bytes c.place_of-n.result c.requires.may c.requires.cell
       c.place_of-n.ensures.value) c.pick-known.ensures (code.entered op.Put c.args.name c.changed.result
-      (change_answer true) s.ledger.items c.append.new.ledger.items c.append.ensures.items c.changed.ensures)
+      (change_answer true) s.ledger.items c.enter.new.ledger.items c.enter.ensures.items c.changed.ensures)
       refl;
 }
 
@@ -18,4 +18,4 @@ pub returns-clause-goes : goal.returns-clause-goes
 returns-clause-goes c = let s = c.args.self.now in
     goes_after s.stands (code.puts s c.args.name c.args.bytes c.place_of-n.result c.requires.may c.requires.cell
     c.place_of-n.ensures.value) c.pick-known.ensures (code.entered op.Put c.args.name c.changed.result
-    (change_answer true) s.ledger.items c.append.new.ledger.items c.append.ensures.items c.changed.ensures) refl
+    (change_answer true) s.ledger.items c.enter.new.ledger.items c.enter.ensures.items c.changed.ensures) refl

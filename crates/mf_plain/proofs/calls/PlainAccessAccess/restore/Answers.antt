@@ -11,11 +11,11 @@ invariant_of-self c = let s = c.args.self.now in record {
       stands_after s.stands (code.restores s c.args.name c.args.bytes c.place_of-at.result c.requires.may
       c.requires.cell c.place_of-at.ensures.value) c.pick-known.ensures
       (code.entered op.Restore c.args.name c.changed.result (change_answer true) s.ledger.items
-      c.append.new.ledger.items c.append.ensures.items c.changed.ensures) refl;
+      c.enter.new.ledger.items c.enter.ensures.items c.changed.ensures) refl;
 }
 
 pub returns-clause-goes : goal.returns-clause-goes
 returns-clause-goes c = let s = c.args.self.now in
     goes_after s.stands (code.restores s c.args.name c.args.bytes c.place_of-at.result c.requires.may c.requires.cell
     c.place_of-at.ensures.value) c.pick-known.ensures (code.entered op.Restore c.args.name c.changed.result
-    (change_answer true) s.ledger.items c.append.new.ledger.items c.append.ensures.items c.changed.ensures) refl
+    (change_answer true) s.ledger.items c.enter.new.ledger.items c.enter.ensures.items c.changed.ensures) refl

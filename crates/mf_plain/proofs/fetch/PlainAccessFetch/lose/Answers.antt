@@ -13,7 +13,7 @@ invariant_of-self c = let s = c.args.self.now in record {
       c.place_of-n.ensures.low c.index_mut.ensures.value c.lose_rest-yes.ensures.answer
       c.lose_rest-yes.ensures.value) c.pick-known.ensures
       (code.entered op.Lose c.args.name c.changed.result (change_answer c.lose_rest-yes.result)
-      s.ledger.items c.append.new.ledger.items c.append.ensures.items c.changed.ensures) refl;
+      s.ledger.items c.enter.new.ledger.items c.enter.ensures.items c.changed.ensures) refl;
 }
 
 pub returns-clause-goes : goal.returns-clause-goes
@@ -23,4 +23,4 @@ returns-clause-goes c = let s = c.args.self.now in
     c.place_of-n.ensures.low c.index_mut.ensures.value c.lose_rest-yes.ensures.answer
     c.lose_rest-yes.ensures.value) c.pick-known.ensures
     (code.entered op.Lose c.args.name c.changed.result (change_answer c.lose_rest-yes.result)
-    s.ledger.items c.append.new.ledger.items c.append.ensures.items c.changed.ensures) refl
+    s.ledger.items c.enter.new.ledger.items c.enter.ensures.items c.changed.ensures) refl

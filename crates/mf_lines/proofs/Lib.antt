@@ -7,3 +7,4 @@ pub mod AgeLemmas
 pub mod KeepLemmas
 pub mod FormLemmas
 pub mod NameLemmas
+pub mod FaultTableLemmas

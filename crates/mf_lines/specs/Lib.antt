@@ -6,3 +6,4 @@ pub mod LineTexts
 pub mod FaultTexts
 pub mod Drafts
 pub mod Keeps
+pub mod FaultTable

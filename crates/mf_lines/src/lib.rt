@@ -13,7 +13,8 @@
 //! ```
 //!
 //! *Proved.* A line's form behind the lines so far, or the first kind of its fault; what the lines
-//! so far add up to. `lines_keep`, a law: what each line that has a form keeps.
+//! so far add up to. `lines_keep`, a law: what each line that has a form keeps. `faults_in_order`,
+//! a law: the fault of a line is the first row of the table of faults that comes.
 #![tactic(auto)]
 
 mod ages;
@@ -29,7 +30,7 @@ mod words;
 
 pub use draft::Draft;
 pub use forms::Form;
-pub use laws::lines_keep;
+pub use laws::{faults_in_order, lines_keep};
 pub use names::is_name;
 pub use parts::{
     Act, Bytes, Client, Clients, Command, Commands, Content, FileLine, FileName, Item, Kind,

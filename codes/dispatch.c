@@ -37,3 +37,20 @@ TWO_BUILDS(decode_row,
            (const uint8_t *points, size_t point_count, uint32_t piece_count, const uint32_t *lost, size_t lost_count,
             const uint32_t *had, size_t had_count, uint32_t e, uint8_t *row, size_t row_length),
            (points, point_count, piece_count, lost, lost_count, had, had_count, e, row, row_length))
+
+TWO_BUILDS(decode,
+           (const uint8_t *points, size_t point_count, uint32_t piece_count, const uint32_t *lost, size_t lost_count,
+            const uint32_t *had, size_t had_count, const struct morph_codes_piece *left, size_t left_count, size_t size,
+            struct morph_codes_room *rooms, size_t room_count),
+           (points, point_count, piece_count, lost, lost_count, had, had_count, left, left_count, size, rooms,
+            room_count))
+
+TWO_BUILDS(plan,
+           (const uint8_t *points, size_t point_count, uint32_t piece_count, const uint32_t *lost, size_t lost_count,
+            const uint32_t *had, size_t had_count, uint8_t *rows, size_t rows_length),
+           (points, point_count, piece_count, lost, lost_count, had, had_count, rows, rows_length))
+
+TWO_BUILDS(apply,
+           (const uint8_t *rows, size_t rows_length, const struct morph_codes_piece *pieces, size_t piece_count,
+            size_t size, struct morph_codes_room *rooms, size_t room_count),
+           (rows, rows_length, pieces, piece_count, size, rooms, room_count))

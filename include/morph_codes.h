@@ -6,8 +6,9 @@
  * good. Parities of narrow stripes merge into those of a wide one, and no chunk of data takes part.
  *
  * Each call tests what it is handed before it writes. It answers MORPH_CODES_DONE, or a status that says what is
- * refused, and then nothing was written. No call keeps a pointer. Only `morph_codes_check` and `morph_codes_decode_row`
- * take memory, by malloc, and give it back before they return. Calls may run in several threads at once.
+ * refused, and then nothing was written. No call keeps a pointer. Only `morph_codes_check`, `morph_codes_decode`,
+ * `morph_codes_plan` and `morph_codes_decode_row` take memory, by malloc, and give it back before they return.
+ * Calls may run in several threads at once.
  *
  * What the caller owes: each pointer has as many bytes or entries as the length beside it, and isn't NULL, also where
  * that length is 0. What is written overlaps nothing else that the call is handed. Nobody writes to it meanwhile.
@@ -72,6 +73,36 @@ uint32_t morph_codes_merge(uint8_t point, uint32_t width, const struct morph_cod
  * COUNT: not a coefficient for each piece. LENGTH: a piece has less than start + length bytes. */
 uint32_t morph_codes_combine(const uint8_t *row, size_t row_length, const struct morph_codes_piece *pieces,
                              size_t piece_count, size_t start, uint8_t *out, size_t length);
+
+/* Overwrites each room with a lost piece of a stripe of `piece_count` pieces. `lost` are the numbers of the lost
+ * pieces, `had` those of as many parities that are had, each from 0 and ascending. `left` is what is left of the
+ * stripe: these parities, in order, and then the pieces that aren't lost, in order. Of each the first `size` bytes are
+ * read. There is a room of `size` bytes for each lost piece, in order.
+ * WIDTH: no piece, or more than 64. POINTS: no point, or more than four.
+ * COUNT: not as many parities as lost pieces, a number that is too large or out of order, not `piece_count` pieces and
+ * parities left, not a room for each lost piece, or a room has not `size` bytes. LENGTH: one of `left` has less than
+ * `size` bytes. UNDECODABLE: these parities don't tell these pieces. Else MEMORY. */
+uint32_t morph_codes_decode(const uint8_t *points, size_t point_count, uint32_t piece_count, const uint32_t *lost,
+                            size_t lost_count, const uint32_t *had, size_t had_count,
+                            const struct morph_codes_piece *left, size_t left_count, size_t size,
+                            struct morph_codes_room *rooms, size_t room_count);
+
+/* Overwrites `rows` with a plan that may be kept: the rows of coefficients by which the lost pieces are had from what
+ * is left, one behind the other, `piece_count` bytes each. `morph_codes_apply` with these rows and `left`, as
+ * `morph_codes_decode` has it, gives the lost pieces of every stripe that has lost the same and has the same parities.
+ * The numbers are as for `morph_codes_decode`.
+ * WIDTH: no piece, or more than 64. POINTS: no point, or more than four.
+ * COUNT: not as many parities as lost pieces, a number that is too large or out of order, or `rows` has not
+ * `lost_count` * `piece_count` bytes. UNDECODABLE: these parities don't tell these pieces. Else MEMORY. */
+uint32_t morph_codes_plan(const uint8_t *points, size_t point_count, uint32_t piece_count, const uint32_t *lost,
+                          size_t lost_count, const uint32_t *had, size_t had_count, uint8_t *rows, size_t rows_length);
+
+/* Overwrites each room with the sum of the pieces, each times its coefficient of the room's row. The rows stand one
+ * behind the other, with a coefficient for each piece. Of each piece the first `size` bytes are read.
+ * WIDTH: more than 64 pieces. COUNT: not a row for each room, or a room has not `size` bytes.
+ * LENGTH: a piece has less than `size` bytes. */
+uint32_t morph_codes_apply(const uint8_t *rows, size_t rows_length, const struct morph_codes_piece *pieces,
+                           size_t piece_count, size_t size, struct morph_codes_room *rooms, size_t room_count);
 
 /* Overwrites `row` with the coefficients by which the e-th lost piece of a stripe of `piece_count` pieces is had from
  * what is left: `morph_codes_combine` with this row, over the parities that are had, in order, and then the pieces that

@@ -117,21 +117,53 @@ static size_t numbers(unsigned set, uint32_t *made)
     return count;
 }
 
-/* Each set of lost pieces, by each set of as many parities. */
+/* What is left of a stripe that has lost these pieces and has these parities. */
+static void leave(const piece *pieces, uint8_t *const *parities, unsigned gone, const uint32_t *had, size_t erased,
+                  size_t size, piece *left)
+{
+    size_t count = 0;
+    for (size_t j = 0; j < erased; j++)
+        left[count++] = (piece){parities[had[j]], size};
+    for (int t = 0; t < K; t++)
+        if (!(gone >> t & 1))
+            left[count++] = pieces[t];
+}
+
+/* The lost pieces, in one call, and by rows that are kept. */
+static void decode_all(const piece *pieces, const piece *left, const uint32_t *lost, const uint32_t *had,
+                       size_t erased, size_t size)
+{
+    uint8_t rows[P * K];
+    for (int kept = 0; kept < 2; kept++) {
+        room rooms[P];
+        for (size_t e = 0; e < erased; e++)
+            rooms[e] = (room){bytes(size, 0x77), size};
+        if (kept)
+            expect(morph_codes_plan(points, P, K, lost, erased, had, erased, rows, erased * K) == MORPH_CODES_DONE &&
+                       morph_codes_apply(rows, erased * K, left, K, size, rooms, erased) == MORPH_CODES_DONE,
+                   "decoding by rows", size);
+        else
+            expect(morph_codes_decode(points, P, K, lost, erased, had, erased, left, K, size, rooms, erased) ==
+                       MORPH_CODES_DONE, "decoding in one call", size);
+        for (size_t e = 0; e < erased; e++) {
+            expect(same(rooms[e].bytes, pieces[lost[e]].bytes, size), kept ? "a piece by rows" : "a piece", size);
+            free(rooms[e].bytes);
+        }
+    }
+}
+
+/* Each set of lost pieces, by each set of as many parities; of long chunks three sets alone. */
 static void decode(const piece *pieces, uint8_t *const *parities, size_t size)
 {
     for (unsigned gone = 1; gone < 1u << K; gone++)
         for (unsigned kept = 1; kept < 1u << P; kept++) {
             uint32_t lost[K], had[P];
-            size_t erased = numbers(gone, lost), count = 0;
-            if (numbers(kept, had) != erased)
+            size_t erased = numbers(gone, lost);
+            if (numbers(kept, had) != erased || (size > 5000 && gone != 1 && gone != 0x12 && gone != 0x2a))
                 continue;
             piece left[K];
-            for (size_t j = 0; j < erased; j++)
-                left[count++] = (piece){parities[had[j]], size};
-            for (int t = 0; t < K; t++)
-                if (!(gone >> t & 1))
-                    left[count++] = pieces[t];
+            leave(pieces, parities, gone, had, erased, size, left);
+            decode_all(pieces, left, lost, had, erased, size);
             for (uint32_t e = 0; e < erased; e++) {
                 uint8_t row[K], *out = bytes(size, 0x77);
                 expect(morph_codes_decode_row(points, P, K, lost, erased, had, erased, e, row, K) == MORPH_CODES_DONE &&
@@ -171,13 +203,51 @@ static void compare(size_t size)
     for (int t = 0; t < K; t++)
         row[t] = power(points[1], (unsigned)t);
     compare_blocks(pieces, narrow[0][1], row, size);
-    if (size < 5000)
-        decode(pieces, narrow[0], size);
+    decode(pieces, narrow[0], size);
     for (int t = 0; t < WIDE; t++)
         free((void *)pieces[t].bytes);
     for (int b = 0; b < 2; b++)
         for (int p = 0; p < P; p++)
             free(narrow[b][p]);
+}
+
+/* Decodings in one call, and rows that are kept, which are refused. Piece 5 of `many` has seven bytes. */
+static void refuse_decodings(piece *many, room *rooms, uint8_t *out)
+{
+    static const uint32_t rising[2] = {0, 1}, falling[2] = {1, 0}, far[2] = {0, 6};
+    static const uint8_t twice[2] = {3, 3};
+    expect(morph_codes_decode(points, 3, 0, rising, 2, rising, 2, many, 0, 8, rooms, 2) == MORPH_CODES_WIDTH,
+           "no piece to decode", 0);
+    expect(morph_codes_decode(points, 3, 65, rising, 2, rising, 2, many, 65, 8, rooms, 2) == MORPH_CODES_WIDTH,
+           "65 pieces to decode", 65);
+    expect(morph_codes_decode(points, 0, 5, rising, 2, rising, 2, many, 5, 8, rooms, 2) == MORPH_CODES_POINTS,
+           "no point to decode", 0);
+    expect(morph_codes_decode(points, 3, 5, falling, 2, rising, 2, many, 5, 8, rooms, 2) == MORPH_CODES_COUNT,
+           "falling losses", 2);
+    expect(morph_codes_decode(points, 3, 5, far, 2, rising, 2, many, 5, 8, rooms, 2) == MORPH_CODES_COUNT,
+           "a loss too far", 6);
+    expect(morph_codes_decode(points, 3, 5, rising, 2, rising, 1, many, 5, 8, rooms, 2) == MORPH_CODES_COUNT,
+           "a parity too few", 1);
+    expect(morph_codes_decode(points, 3, 5, rising, 2, rising, 2, many, 4, 8, rooms, 2) == MORPH_CODES_COUNT,
+           "a piece too few", 4);
+    expect(morph_codes_decode(points, 3, 5, rising, 2, rising, 2, many, 5, 8, rooms, 1) == MORPH_CODES_COUNT,
+           "a room too few to decode", 1);
+    expect(morph_codes_decode(points, 3, 5, rising, 2, rising, 2, many, 5, 7, rooms, 2) == MORPH_CODES_COUNT,
+           "a room too large", 8);
+    expect(morph_codes_decode(points, 3, 6, rising, 2, rising, 2, many, 6, 8, rooms, 2) == MORPH_CODES_LENGTH,
+           "a piece too short to decode", 7);
+    expect(morph_codes_decode(twice, 2, 5, rising, 2, rising, 2, many, 5, 8, rooms, 2) == MORPH_CODES_UNDECODABLE,
+           "decoding by two equal points", 2);
+    expect(morph_codes_plan(points, 3, 0, rising, 1, rising, 1, out, 0) == MORPH_CODES_WIDTH, "no piece of a plan", 0);
+    expect(morph_codes_plan(points, 5, 4, rising, 2, rising, 2, out, 8) == MORPH_CODES_POINTS, "five points", 5);
+    expect(morph_codes_plan(points, 3, 4, rising, 2, falling, 2, out, 8) == MORPH_CODES_COUNT, "falling parities", 2);
+    expect(morph_codes_plan(points, 3, 3, rising, 2, rising, 2, out, 8) == MORPH_CODES_COUNT, "long rows", 8);
+    expect(morph_codes_plan(twice, 2, 4, rising, 2, rising, 2, out, 8) == MORPH_CODES_UNDECODABLE,
+           "a plan by two equal points", 2);
+    expect(morph_codes_apply(points, 3, many, 65, 8, rooms, 2) == MORPH_CODES_WIDTH, "65 pieces by rows", 65);
+    expect(morph_codes_apply(points, 3, many, 2, 8, rooms, 2) == MORPH_CODES_COUNT, "a coefficient too few by rows", 3);
+    expect(morph_codes_apply(points, 2, many, 1, 7, rooms, 2) == MORPH_CODES_COUNT, "a room too large by rows", 8);
+    expect(morph_codes_apply(points, 2, many + 5, 1, 8, rooms, 2) == MORPH_CODES_LENGTH, "a short piece by rows", 7);
 }
 
 /* What is refused, and that nothing is written then. */
@@ -218,6 +288,7 @@ static void refuse(void)
     expect(morph_codes_decode_row(points, 3, 7, rising, 2, rising, 2, 0, out, 8) == MORPH_CODES_COUNT, "a long row", 7);
     expect(morph_codes_decode_row(twice, 2, 8, rising, 2, rising, 2, 0, out, 8) == MORPH_CODES_UNDECODABLE,
            "two equal points", 2);
+    refuse_decodings(many, rooms, out);
     for (int x = 0; x < 8; x++)
         expect(out[x] == 0x77 && kept[x] == 0x77, "a refusal has written", (size_t)x);
 }
@@ -257,19 +328,48 @@ static void check(void)
     expect(refused > 1 && status == MORPH_CODES_DONE, "a row with malloc refused", (size_t)refused);
 }
 
+/* Decodings and plans with malloc refused at each call in turn. */
+static void refuse_memory(void)
+{
+    static const uint32_t first[3] = {0, 1, 2};
+    static uint8_t data[8];
+    for (int kept = 0; kept < 2; kept++) {
+        uint8_t out[P * K];
+        memset(out, 0x77, sizeof out);
+        piece left[K];
+        for (int t = 0; t < K; t++)
+            left[t] = (piece){data, 6};
+        room rooms[P] = {{out, 6}, {out + 6, 6}, {out + 12, 6}};
+        long refused = 0;
+        uint32_t status = MORPH_CODES_MEMORY;
+        for (; refused < 10000 && status == MORPH_CODES_MEMORY; refused++) {
+            granted = refused;
+            status = kept ? morph_codes_plan(points, P, K, first, 3, first, 3, out, sizeof out)
+                          : morph_codes_decode(points, P, K, first, 3, first, 3, left, K, 6, rooms, P);
+            granted = -1;
+            for (size_t x = 0; x < sizeof out && status == MORPH_CODES_MEMORY; x++)
+                expect(out[x] == 0x77, "a call without memory has written", x);
+        }
+        expect(refused > 1 && status == MORPH_CODES_DONE, kept ? "a plan with malloc refused" :
+               "a decoding with malloc refused", (size_t)refused);
+    }
+}
+
 int main(void)
 {
     for (size_t i = 0; i < sizeof sizes / sizeof *sizes; i++)
         compare(sizes[i]);
     refuse();
     check();
+    refuse_memory();
     granted = 0;
     static uint8_t data[64], out[64];
     piece one = {data, 64};
     room made = {out, 64};
     expect(morph_codes_encode(points, 1, &one, 1, 64, &made, 1) == MORPH_CODES_DONE &&
                morph_codes_merge(2, 6, &one, 1, 0, out, 64) == MORPH_CODES_DONE &&
-               morph_codes_combine(points, 1, &one, 1, 0, out, 64) == MORPH_CODES_DONE, "without memory", 64);
+               morph_codes_combine(points, 1, &one, 1, 0, out, 64) == MORPH_CODES_DONE &&
+               morph_codes_apply(points, 1, &one, 1, 64, &made, 1) == MORPH_CODES_DONE, "without memory", 64);
     granted = -1;
     printf("codes: %d passed, %d failed\n", passed, failed);
     return failed != 0;

@@ -2,3 +2,5 @@ mod Pieces
 mod Rooms
 mod Fronts
 mod Losses
+mod Kept
+mod Decodings

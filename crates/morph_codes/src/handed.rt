@@ -1,5 +1,5 @@
 //! What a caller of C hands in, and its tests.
-ghost use Rattle.std.specs.Prelude.{true, ◌≡◌, ◌+◌, ◌<◌, ◌≤◌, length};
+ghost use Rattle.std.specs.Prelude.{true, ◌≡◌, ◌+◌, ◌*◌, ◌<◌, ◌≤◌, length};
 ghost use Rattle.std.specs.Bool.{OnTrue, OnFalse};
 ghost use Rattle.morph_codes.specs.Handed.{HaveColumns, RoomsFit};
 
@@ -60,4 +60,13 @@ fn has(piece: &Piece, start: usize, count: usize) -> bool
 {
     let length = piece.bytes.len();
     start <= length && count <= length - start
+}
+
+/// Whether so many coefficients are so many rows of so many each.
+pub(crate) fn are_rows(coefficients: usize, rows: usize, each: usize) -> bool
+    requires { each ≤ 64 }
+    ensures yes { OnTrue result (coefficients ≡ rows * each) }
+    ensures no { coefficients ≡ rows * each → result ≡ true }
+{
+    rows.checked_mul(each) == Some(coefficients)
 }

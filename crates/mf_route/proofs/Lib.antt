@@ -1,0 +1,5 @@
+mod Checks
+mod Choosing
+mod Costs
+mod Orders
+mod Ways

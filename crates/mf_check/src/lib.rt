@@ -40,7 +40,7 @@ use std::marker::Model;
 
 /// A set of places in ascending order: data places below the width, and the place width + p for
 /// parity p.
-#[derive(Debug, Drop)]
+#[derive(Drop)]
 pub struct Places {
     items: Vec<u32>,
 }
@@ -63,7 +63,7 @@ impl Places {
 }
 
 /// Why a shape and points are no family.
-#[derive(Debug, Drop)]
+#[derive(Drop)]
 pub enum FamilyFault {
     /// There are this many points, and not as many as stage 0 has parities.
     PointCount(u32),
@@ -84,7 +84,7 @@ pub enum FamilyFault {
 }
 
 /// A shape and points at which every stage is decodable.
-#[derive(Debug, Drop)]
+#[derive(Drop)]
 pub struct Family {
     shape: Shape,
     points: Vec<u8>,

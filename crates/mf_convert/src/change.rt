@@ -4,7 +4,7 @@ use mf_places::Name;
 use std::fmt;
 
 /// What came of creating a file, of converting it to its next stage, or of removing it.
-#[derive(Clone, Copy, Debug, PartialEq, Eq)]
+#[derive(Clone, Copy, PartialEq, Eq)]
 pub enum Change {
     /// The file was created: generation 0 is published.
     Created,

@@ -18,7 +18,7 @@ use mf_kernel::{Chunk, Memory};
 use std::alloc::{AllocError, Global};
 
 /// What a gathering answers.
-#[derive(Debug, Drop)]
+#[derive(Drop)]
 pub enum Gathered {
     /// All data chunks of the stripe, in order.
     All(Vec<Chunk>),

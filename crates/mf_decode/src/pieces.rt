@@ -9,14 +9,14 @@ ghost use Rattle.mf_decode.specs.declared.pieces.Place.TheVariants as place;
 use mf_kernel::{Chunk, Memory};
 
 /// A place of a stripe: a piece of its data or one of its parities, by number from 0.
-#[derive(Clone, Copy, Debug, PartialEq, Eq, Drop)]
+#[derive(Clone, Copy, Drop)]
 pub enum Place {
     Piece(u32),
     Parity(u32),
 }
 
 /// An answer: the place that was asked for, and whether there was a chunk.
-#[derive(Clone, Copy, Debug, PartialEq, Eq, Drop)]
+#[derive(Clone, Copy, Drop)]
 pub struct Asked {
     pub place: Place,
     pub had: bool,

@@ -14,7 +14,7 @@ use std::marker::Model;
 
 /// How the erased data of a stripe is had again: a plan serves each stripe of its width that has
 /// lost the same data and has the same parities.
-#[derive(Debug, Drop)]
+#[derive(Drop)]
 pub struct DecodePlan {
     pub(crate) points: Vec<u8>,
     pub(crate) width: u32,
@@ -68,7 +68,7 @@ impl DecodePlan {
 }
 
 /// Why there is no plan.
-#[derive(Debug, Drop)]
+#[derive(Drop)]
 pub enum NoPlan {
     /// The matrix has no inverse, and this is its kernel list.
     Kernel(KernelList),

@@ -34,7 +34,7 @@ pub use standard::{StdSink, StdSource};
 pub use whole::{ReadAll, read_all, write_all};
 
 /// A read or a write failed, and the count of its source or sink has risen.
-#[derive(Clone, Copy, Debug, PartialEq, Eq)]
+#[derive(Clone, Copy)]
 pub struct Failed;
 
 /// Gives bytes in order, piece by piece.

@@ -10,7 +10,7 @@ pub type Memory = AllocError;
 
 /// Bytes that don't change. Its owners share them by a count, so that a further owner costs no
 /// copy.
-#[derive(Debug, Drop)]
+#[derive(Drop)]
 pub struct Chunk {
     bytes: Arc<Vec<u8>>,
 }

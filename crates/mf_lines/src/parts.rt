@@ -133,7 +133,7 @@ pub enum Content {
 }
 
 /// The name of a file, as text.
-#[derive(Debug, Drop)]
+#[derive(Drop)]
 pub struct FileName {
     text: String,
 }

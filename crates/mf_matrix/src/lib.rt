@@ -38,7 +38,7 @@ pub const MAX_SIDE: usize = 8;
 const ROOM: usize = MAX_SIDE * MAX_SIDE;
 
 /// A matrix of bytes with at most eight rows and eight columns. It takes no memory.
-#[derive(Debug, Drop)]
+#[derive(Drop)]
 pub struct Matrix {
     rows: u32,
     columns: u32,
@@ -68,7 +68,7 @@ impl Model for Matrix {
 /// The kernel list of a matrix that has no inverse: the matrix sends it to zero, it is zero after
 /// the first column that depends on the columns before it, and its first entry that is not zero is
 /// 1.
-#[derive(Debug, Drop)]
+#[derive(Drop)]
 pub struct KernelList {
     entries: Vec<u8>,
 }
@@ -91,7 +91,7 @@ impl KernelList {
 }
 
 /// What is answered in place of an inverse.
-#[derive(Debug, Drop)]
+#[derive(Drop)]
 pub enum NoInverse {
     /// The matrix has no inverse, and this is its kernel list.
     Kernel(KernelList),

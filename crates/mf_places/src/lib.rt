@@ -56,7 +56,7 @@ pub const MAX_LENGTH: u32 = 1_048_576;
 pub const MAX_CHUNKS: u32 = 1_024;
 
 /// The name of one chunk of a file.
-#[derive(Clone, Copy, Debug, PartialEq, Eq)]
+#[derive(Clone, Copy, PartialEq, Eq)]
 pub enum Name {
     /// Chunk i of the file.
     Data(u32),
@@ -71,7 +71,7 @@ pub enum Name {
 /// The order is: all data by chunk; then the copies, by copy and then chunk; then the parities, by
 /// width, then stripe, then point. At a width there are as many parities as the stage of that width
 /// with the most has.
-#[derive(Debug, Drop)]
+#[derive(Drop)]
 pub struct Book {
     shape: Shape,
     points: Vec<u8>,

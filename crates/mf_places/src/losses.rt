@@ -6,7 +6,7 @@ use std::alloc::Global;
 use std::marker::Model;
 
 /// A line of a script that empties a server.
-#[derive(Clone, Copy, Debug, PartialEq, Eq)]
+#[derive(Clone, Copy)]
 pub struct LoseLine {
     /// The number of the line in the script's text, from 1.
     pub line: u32,
@@ -15,7 +15,7 @@ pub struct LoseLine {
 }
 
 /// The lose lines up to the end of a phase, in the order of the script.
-#[derive(Debug, Drop)]
+#[derive(Drop)]
 pub struct Losses {
     lines: Vec<LoseLine>,
 }

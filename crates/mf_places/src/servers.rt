@@ -9,7 +9,7 @@ use std::alloc::Global;
 use std::fmt;
 
 /// A set of servers: bit s stands for server s. A server above 127 is in no set.
-#[derive(Clone, Copy, Debug, PartialEq, Eq)]
+#[derive(Clone, Copy)]
 pub struct Servers {
     pub bits: u128,
 }

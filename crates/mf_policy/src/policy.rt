@@ -4,7 +4,7 @@ use std::marker::Model;
 
 /// For each stage the least age at which a file is due for it: stage 0 from age 0 on, and each
 /// later stage at a greater age.
-#[derive(Debug, Drop)]
+#[derive(Drop)]
 pub struct Policy {
     thresholds: Vec<u64>,
 }

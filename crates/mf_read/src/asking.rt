@@ -15,14 +15,14 @@ use mf_vault::{Fetch, Got, Name};
 use std::alloc::AllocError;
 
 // What memory was wanted for: an entry of the ledger, or to share the chunk of a name.
-#[derive(Clone, Copy, Debug, PartialEq, Eq, Drop)]
+#[derive(Clone, Copy, Drop)]
 pub(crate) enum Wanting {
     Room,
     Share(Name),
 }
 
 // Where an asking stopped, and for want of what memory.
-#[derive(Clone, Copy, Debug, PartialEq, Eq, Drop)]
+#[derive(Clone, Copy, Drop)]
 pub(crate) struct Stop {
     pub(crate) place: Place,
     pub(crate) wanting: Wanting,

@@ -5,7 +5,7 @@ use std::marker::Model;
 
 /// Names that were found lost, in the order found, each with the line of the lose command that lost
 /// it.
-#[derive(Debug, Drop)]
+#[derive(Drop)]
 pub struct LostNames {
     items: Vec<(Name, u32)>,
 }
@@ -38,7 +38,7 @@ impl LostNames {
 }
 
 /// What came of a read.
-#[derive(Debug, Drop)]
+#[derive(Drop)]
 pub enum ReadOutcome {
     /// The file's bytes, from generation `g`. `from` is how many chunks were got.
     Bytes {
@@ -69,7 +69,7 @@ pub enum ReadOutcome {
 }
 
 /// What came of a read that hands the bytes on.
-#[derive(Debug, Drop)]
+#[derive(Drop)]
 pub enum IntoOutcome {
     /// The file's bytes were handed on, from generation `g`: `length` bytes. `from` is how many
     /// chunks were got.

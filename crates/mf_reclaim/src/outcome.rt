@@ -4,7 +4,7 @@ use std::fmt;
 use std::marker::Model;
 
 /// Generations that have pins, ascending, each with the number of its pins.
-#[derive(Debug, Drop)]
+#[derive(Drop)]
 pub struct PinCounts {
     items: Vec<(u32, u32)>,
 }
@@ -55,7 +55,7 @@ impl fmt::Display for PinCounts {
 }
 
 /// What came of a reclaim.
-#[derive(Debug, Drop)]
+#[derive(Drop)]
 pub enum ReclaimOutcome {
     /// So many generations were closed by this call, and so many names dropped. Those that couldn't
     /// be closed have pins.

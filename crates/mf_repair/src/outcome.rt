@@ -5,7 +5,7 @@ use mf_read::LostNames;
 use std::fmt;
 
 /// What came of a repair.
-#[derive(Debug, Drop)]
+#[derive(Drop)]
 pub enum RepairOutcome {
     /// Every stripe was mended.
     Repaired {

@@ -43,7 +43,7 @@ pub const MAX_SERVERS: u32 = 128;
 
 /// One stage of a file's life: stripes of `width` chunks with `parities` parities each, and
 /// `copies` further copies of each chunk.
-#[derive(Clone, Copy, Debug, PartialEq, Eq)]
+#[derive(Clone, Copy)]
 pub struct Stage {
     pub width: u32,
     pub parities: u32,
@@ -52,7 +52,7 @@ pub struct Stage {
 
 /// Why a list of stages is no chain. The number is that of the least stage that breaks the rule,
 /// and for `Servers` how many servers the chain needs.
-#[derive(Clone, Copy, Debug, PartialEq, Eq)]
+#[derive(Clone, Copy, Debug)]
 pub enum ShapeFault {
     /// There is no stage.
     NoStage,
@@ -106,7 +106,7 @@ impl fmt::Display for ShapeFault {
 }
 
 /// A chain of stages that keeps the rules, over a number of servers.
-#[derive(Debug, Drop)]
+#[derive(Drop)]
 pub struct Shape {
     stages: Vec<Stage>,
     servers: u32,

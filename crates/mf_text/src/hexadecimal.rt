@@ -9,7 +9,7 @@ use std::alloc::{AllocError, AllocFailed, Global};
 use std::fmt;
 
 /// Why a word has no bytes.
-#[derive(Debug, Drop)]
+#[derive(Drop)]
 pub enum HexFault {
     /// The word is empty, of odd length, or has a byte outside `0` to `9` and `a` to `f`.
     Shape,

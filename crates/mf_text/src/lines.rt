@@ -15,21 +15,21 @@ const LF: u8 = b'\n';
 const CR: u8 = b'\r';
 
 /// A part of a text or of a line: from the byte at `start` to before the byte at `end`.
-#[derive(Clone, Copy, Debug, PartialEq, Eq)]
+#[derive(Clone, Copy)]
 pub struct Span {
     pub start: usize,
     pub end: usize,
 }
 
 /// The place of a byte that may not stand in a line, both from 1.
-#[derive(Clone, Copy, Debug, PartialEq, Eq)]
+#[derive(Clone, Copy)]
 pub struct TextFault {
     pub line: u32,
     pub column: u32,
 }
 
 /// Why a text has no lines.
-#[derive(Debug, Drop)]
+#[derive(Drop)]
 pub enum SplitFault {
     /// The first byte outside 32 to 126 that is no part of a line's end.
     Text(TextFault),

@@ -5,7 +5,7 @@ use mf_machine::Closed;
 use mf_places::Name;
 
 /// What a pin found: the generation that it pinned; or that the file isn't created, or is removed.
-#[derive(Clone, Copy, Debug, PartialEq, Eq, Drop)]
+#[derive(Clone, Copy, PartialEq, Eq, Drop)]
 pub enum Pinned {
     At(u32),
     Absent,
@@ -14,7 +14,7 @@ pub enum Pinned {
 
 /// What a get found. Lost has the line of the lose command, and Away the server that can't be
 /// reached.
-#[derive(Debug, Drop)]
+#[derive(Drop)]
 pub enum Got {
     Here(Chunk),
     Lost(u32),
@@ -24,7 +24,7 @@ pub enum Got {
 }
 
 /// An operation on a chunk.
-#[derive(Clone, Copy, Debug, PartialEq, Eq, Drop)]
+#[derive(Clone, Copy, PartialEq, Eq, Drop)]
 pub enum Op {
     Get,
     Probe,
@@ -35,7 +35,7 @@ pub enum Op {
 }
 
 /// The answer of an operation on a chunk. Done and Nothing say whether it changed the name.
-#[derive(Clone, Copy, Debug, PartialEq, Eq, Drop)]
+#[derive(Clone, Copy, PartialEq, Eq, Drop)]
 pub enum Answer {
     Here,
     Lost(u32),
@@ -46,14 +46,14 @@ pub enum Answer {
 }
 
 /// An entry of a ledger.
-#[derive(Clone, Copy, Debug, PartialEq, Eq, Drop)]
+#[derive(Clone, Copy, PartialEq, Eq, Drop)]
 pub enum Entry {
     Chunk { op: Op, name: Name, answer: Answer },
     Close { g: u32, closed: Closed },
 }
 
 /// A name at rest.
-#[derive(Debug, Drop)]
+#[derive(Drop)]
 pub enum Rest {
     Unborn,
     Here(Chunk),

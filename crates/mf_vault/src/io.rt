@@ -7,7 +7,7 @@ use mf_places::Name;
 use std::fmt;
 
 /// Chunk operations by their kind.
-#[derive(Clone, Copy, Debug, Default, PartialEq, Eq)]
+#[derive(Clone, Copy, Default, PartialEq, Eq)]
 pub struct Io {
     /// Gets of data that were answered with the chunk.
     pub pieces: u64,

@@ -6,9 +6,7 @@ use mathlib.Core.Option.{some, some-injective, some-ne-none}
 use native.Mathlib.Decide.{ℕ_discrete}
 use lib.ListN.{get_elem?}
 use Rattle.mf_machine.specs.declared.view.Build.{Build}
-use Rattle.mf_machine.specs.declared.view.Changes.{Changes}
 use Rattle.mf_machine.specs.declared.view.Inside.{Inside}
-use Rattle.mf_machine.specs.declared.view.Made.{Made}
 use Rattle.mf_machine.specs.declared.view.Met.{Met}
 use Rattle.mf_machine.specs.declared.view.Seen.{Seen}
 use Rattle.mf_machine.specs.declared.view.View.{View}
@@ -17,14 +15,14 @@ use Rattle.mf_machine.specs.Answers as answer
 use Rattle.mf_machine.specs.Answers.{Answer, often}
 use Rattle.mf_machine.specs.Counts.{bit, times}
 use Rattle.mf_machine.specs.Exhibits.{Breaks, NumberNeeds, PinsNeed, BornNeeds, SeenNeeds}
-use Rattle.mf_machine.specs.Exhibits.{BuilderNeeds, DroppedNeeds, CellsNeed, EachNeeds, AccountedBreaks, Uncaused}
+use Rattle.mf_machine.specs.Exhibits.{BuilderNeeds, DroppedNeeds, CellsNeed, EachNeeds, Uncaused}
 use Rattle.mf_machine.specs.Exhibits.{CausedNeeds}
 use Rattle.mf_machine.specs.File.{File, Opening, State, HasCell, Unharmed}
 use Rattle.mf_machine.specs.File.Home.{empty, keeps}
 use Rattle.mf_machine.specs.Kept.{IsMetOf, HasSeen, IsInside, HasTaken, Losses, Cause}
 use Rattle.mf_machine.specs.Rest.{Rest}
 use Rattle.mf_machine.specs.Worlds.{fresh, nothing_seen, nothing_built, nothing_met}
-use Rattle.mf_machine.specs.Worlds.{nothing_made, no_changes, outside}
+use Rattle.mf_machine.specs.Worlds.{outside}
 use Rattle.mf_machine.proofs.Entering.{enter, often_here, often_else}
 use Rattle.mf_machine.proofs.Guards.{false_true}
 use Rattle.mf_machine.proofs.Lists.{bit_not}
@@ -467,107 +465,9 @@ each_needs = record {
   cells = cells_need;
 }
 
--- an actor that made this; one that was answered this
-abbrev maker : Made → View
-maker m = record (fresh 1 [] nothing_seen) { made = m }
-
-abbrev changer : Changes → View
-changer c = maker (record nothing_made { changes = c })
-
+-- an actor that was answered this
 abbrev told : Answer → View
 told a = record (fresh 1 [] nothing_seen) { own = enter a nothing_met }
-
-pub accounted_breaks : AccountedBreaks
-accounted_breaks = record {
-  number = (
-    file,
-    start,
-    state 1 0 (λ _. 0) (λ _. 0) [],
-    rest,
-    λ r. ⊎_elim (λ t. let e = t.0 in
-        omega arith) (λ h. omega arith) r,
-  );
-  greatest = (
-    file,
-    start,
-    state 1 0 (λ _. 0) (λ _. 0) (maker (record nothing_made { numbers = 2 ∷ [] }) ∷ []),
-    rest,
-    λ
-        r. let t = r 2 (omega arith) in omega arith,
-  );
-  published_once = (
-    file,
-    start,
-    state 1 0 (λ _. 0) (λ _. 0) (maker (record nothing_made { numbers = 1 ∷ 1 ∷ [] }) ∷ []),
-    rest,
-    λ r. let t = (r 1 (omega arith)).0 in omega arith,
-  );
-  closed_once = (
-    file,
-    start,
-    state 1 0 (λ _. 0) (λ _. 0) (maker (record nothing_made { closings = 0 ∷ 0 ∷ [] }) ∷ []),
-    rest,
-    λ r. let t = (r 0 (omega arith) (omega arith)).0 in omega arith,
-  );
-  put_once = (
-    file,
-    start,
-    state 1 0 (λ _. 0) (λ _. 0) (changer (record no_changes { put = 0 ∷ 0 ∷ [] }) ∷ []),
-    rest,
-    λ r. let t = (r 0 (omega arith) (omega arith)).0 in omega arith,
-  );
-  dropped_once = (
-    file,
-    start,
-    state 1 0 (λ _. 0) (λ _. 0) (changer (record no_changes { dropped = 0 ∷ 0 ∷ [] }) ∷ []),
-    rest,
-    λ r. let t = (r 0 (omega arith) (omega arith)).0 in omega arith,
-  );
-  closed = (
-    file,
-    start,
-    state 1 0 (λ _. 9223372036854775808) (λ _. 0) [],
-    rest,
-    λ r. ⊎_elim (λ e. false_true e) (λ h. omega arith) ((r 0 (omega arith)).0 (omega arith)),
-  );
-  unborn = (
-    file,
-    start,
-    state 1 0 (λ _. 0) (λ _. 1) [],
-    rest,
-    λ r. ⊎_elim (λ e. omega arith) (λ h. omega arith) ((r 0 (omega arith)).1 (refl, refl)),
-  );
-  dropped = (
-    file,
-    start,
-    state 1 0 (λ _. 0) (λ _. 3) [],
-    rest,
-    λ r. ⊎_elim (λ e. omega arith) (λ h. omega arith) ((r 0 (omega arith)).0 refl),
-  );
-  lost = (
-    file,
-    start,
-    state 1 0 (λ _. 0) (λ _. 4) [],
-    rest,
-    λ r. let t = r 0 (omega arith) (λ e. omega arith)
-        (inl (omega arith)) in omega arith,
-  );
-  kept = (
-    file,
-    start,
-    state 1 0 (λ _. 0) (λ _. 1) (changer (record no_changes { lost = (record { name = 0; line = 7 }) ∷ [] }) ∷ []),
-    rest,
-    λ r. let t = r 0 (omega arith) (λ e. omega arith) (omega arith) refl in omega arith,
-  );
-  line = (
-    file,
-    start,
-    state 1 0 (λ _. 0) (λ _. 11) [],
-    rest,
-    λ r. ⊎_elim (λ e. omega arith) (λ h. omega arith)
-        (r 0 (omega arith) 7 refl),
-  );
-}
 
 -- an opening in which each name is Here
 abbrev stored : Opening

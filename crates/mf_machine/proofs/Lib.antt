@@ -21,3 +21,4 @@ pub mod Goes
 pub mod Told
 pub mod Tells
 pub mod Guards
+pub mod Accounting

@@ -1,5 +1,5 @@
 -- No guard is too strong: a run in which each step is made and each answer given. No clause of the rules is idle: for
--- each a state that breaks it; and but for those of *Accounted* it meets the other clauses of its rule.
+-- each a state that meets the other clauses of its rule, and not the rule (those of *Accounted* stand in `Clauses`).
 use Rattle.std.specs.Prelude.{◌≡◌, ◌≢◌, ℕ, ◌<◌, true, false, List, ◌∷◌, ◌++◌, length}
 use Rattle.mf_machine.specs.declared.answer.Closed.TheVariants as closing
 use Rattle.mf_machine.specs.declared.answer.LoseStep.TheVariants as losing
@@ -15,9 +15,7 @@ use Rattle.mf_machine.specs.Kept.{IsInside, Number, NumberTop, NumberSeen, Numbe
 use Rattle.mf_machine.specs.Kept.{PinnedIs, PinnedOpen, PinnedSeen, Born, BornPublished, BornSeen, Seen, SeenClosed}
 use Rattle.mf_machine.specs.Kept.{SeenBorn, SeenDropped, Builder, UnbornToBuilder, LostToBuilder, Dropped}
 use Rattle.mf_machine.specs.Kept.{DroppedClosed, DroppingClosed, Losses, Cells, HereIsCell, TakenBySome, TakenByOne}
-use Rattle.mf_machine.specs.Kept.{TakenIsName, TakenIsTaken, TakenIsHeld, NumberGiven, Greatest, PublishedOnce}
-use Rattle.mf_machine.specs.Kept.{ClosedOnce, PutOnce, DroppedOnce, ClosedBy, UnbornStill, DroppedBy, LostOnceMore}
-use Rattle.mf_machine.specs.Kept.{LostAsOften, LineGiven, AnswerCaused, RightBegun, PinOpened, Caused}
+use Rattle.mf_machine.specs.Kept.{TakenIsName, TakenIsTaken, TakenIsHeld, AnswerCaused, RightBegun, PinOpened, Caused}
 use Rattle.mf_machine.specs.Laws.{IsLast}
 use Rattle.mf_machine.specs.Moves.{Move, Deed, look, pin, unpin, close, begin, end, publish, see, take, give, birth}
 use Rattle.mf_machine.specs.Moves.{born, lose, lost, retake, restored, drop, drop_again, dropped, exchange, split, join}
@@ -193,21 +191,6 @@ pub record EachNeeds : Type 0 where
   pub dropped : DroppedNeeds
   pub losses : Breaks (λ f k s. Losses f s)
   pub cells : CellsNeed
-
--- each clause of *Accounted*
-pub record AccountedBreaks : Type 0 where
-  pub number : Breaks (λ f k s. NumberGiven k s)
-  pub greatest : Breaks (λ f k s. (m : ℕ) → Greatest s m)
-  pub published_once : Breaks (λ f k s. (m : ℕ) → PublishedOnce k s m)
-  pub closed_once : Breaks (λ f k s. (g : ℕ) → g < f.stages → ClosedOnce k s g)
-  pub put_once : Breaks (λ f k s. (n : ℕ) → n < f.names → PutOnce k s n)
-  pub dropped_once : Breaks (λ f k s. (n : ℕ) → n < f.names → DroppedOnce k s n)
-  pub closed : Breaks (λ f k s. (g : ℕ) → g < f.stages → ClosedBy k s g)
-  pub unborn : Breaks (λ f k s. (n : ℕ) → n < f.names → UnbornStill k s n)
-  pub dropped : Breaks (λ f k s. (n : ℕ) → n < f.names → DroppedBy k s n)
-  pub lost : Breaks (λ f k s. (n : ℕ) → n < f.names → LostOnceMore k s n)
-  pub kept : Breaks (λ f k s. (n : ℕ) → n < f.names → LostAsOften k s n)
-  pub line : Breaks (λ f k s. (n : ℕ) → n < f.names → LineGiven k s n)
 
 -- each answer but this one has its cause
 abbrev pub OthersCaused : Opening → State → Answer → Type 0

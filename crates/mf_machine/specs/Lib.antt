@@ -12,3 +12,4 @@ pub mod Ruled
 pub mod Kept
 pub mod Laws
 pub mod Exhibits
+pub mod Clauses

@@ -1,6 +1,7 @@
 //! The laws. A reached state is what any list of moves of any number of actors, splits and joins
 //! included, makes of any file at rest.
-ghost use Rattle.mf_machine.specs.Exhibits.{AccountedBreaks, CausedNeeds, EachNeeds, SomeRun};
+ghost use Rattle.mf_machine.specs.Clauses.{AccountedNeeds};
+ghost use Rattle.mf_machine.specs.Exhibits.{CausedNeeds, EachNeeds, SomeRun};
 ghost use Rattle.mf_machine.specs.Laws.{AddsUp, AnswersEntered, AnswersFit, AnswersTell};
 ghost use Rattle.mf_machine.specs.Laws.{CausesLeadBack, LastBringsBack, Law, NotesTrue, OnlyGrows};
 ghost use Rattle.mf_machine.specs.Laws.{PinnedStays, RestGoesOn, RestIsKept, RuleHolds, SeenHandedOn};
@@ -53,11 +54,11 @@ pub fn no_guard_is_too_strong()
     ensures { SomeRun }
 {}
 
-/// No clause of the rules is idle: some state breaks it; and but for the ninth rule's clauses, it
-/// meets the other clauses of its rule.
+/// No clause of the rules is idle: some state meets the other clauses of its rule, and not the
+/// rule.
 pub fn no_rule_is_empty()
     ensures rules { EachNeeds }
-    ensures accounted { AccountedBreaks }
+    ensures accounted { AccountedNeeds }
     ensures caused { CausedNeeds }
 {}
 

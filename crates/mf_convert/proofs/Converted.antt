@@ -22,6 +22,7 @@ use Rattle.mf_vault.specs.Licence.{Does, Entered, entries_of, work_of_pin}
 use Rattle.mf_vault.specs.May.{MayPublish}
 use Rattle.mf_vault.proofs.Doing.{one, then, after, more, facts_stay, entries_are}
 use Rattle.mf_vault.proofs.Held.{may_publish_next}
+use Rattle.mf_vault.proofs.Leaving.{AreOps}
 use Rattle.mf_convert.specs.declared.change.Change.{Change}
 use Rattle.mf_convert.specs.declared.change.Change.TheVariants as change
 use Rattle.mf_convert.specs.declared.course.Course.{Course}
@@ -30,7 +31,7 @@ use Rattle.mf_convert.specs.Convert.{IsConversion, IsConvert, Converts, IsCounte
 use Rattle.mf_convert.specs.Converting.{since, IsConverter, CutsAll, CompletesAll, ConvertsFrom, ConvertsPinned}
 use Rattle.mf_convert.proofs.Fewer.{whole_few, calls_few}
 use Rattle.mf_convert.proofs.Next.{next_found}
-use Rattle.mf_convert.proofs.Steady.{stays, converter_stays, whole_ops, cut_ops, AreOps}
+use Rattle.mf_convert.proofs.Steady.{stays, converter_stays, whole_ops, cut_ops}
 
 -- the entries since the ledger was so long are those of all calls
 pub since_all : (c : Course) {cs : List Call} {a b : Actor} → c.start ≡ length a.entries → Does cs a b

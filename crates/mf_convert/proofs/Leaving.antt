@@ -6,12 +6,12 @@ use Rattle.mf_machine.specs.Steps.{begun}
 use Rattle.mf_places.specs.declared.Name.{Name}
 use Rattle.mf_vault.specs.declared.answers.Pinned.TheVariants as pinned
 use Rattle.mf_vault.specs.Facts.{Facts}
-use Rattle.mf_vault.specs.Actor.{Actor, Call, cut_off, pin, unpin, begin, end, publish, probe, put, restore, close}
-use Rattle.mf_vault.specs.Actor.{discard, get, lose}
+use Rattle.mf_vault.specs.Actor.{Actor, Call, end, publish}
 use Rattle.mf_vault.specs.Conditions.{IsIdle, Leaves}
 use Rattle.mf_vault.specs.Licence.{did_all}
 use Rattle.mf_vault.proofs.Entering.{tried_hold}
-use Rattle.mf_vault.proofs.Leaving.{IsQuiet, AreQuiet, quiet_all, quiet_append, stays_on, did_both, entered}
+use Rattle.mf_vault.proofs.Leaving.{AreQuiet, quiet_all, quiet_append, ops_quiet, stays_on, did_both, entered}
+use Rattle.mf_vault.proofs.Leaving.{AreOps, ops_then}
 use Rattle.mf_vault.proofs.Leaving.{entered_work, worked, turned, refused}
 use Rattle.mf_convert.specs.declared.change.Change.{Change}
 use Rattle.mf_convert.specs.Create as create
@@ -20,25 +20,20 @@ use Rattle.mf_convert.specs.Remove as remove
 use Rattle.mf_convert.specs.Remove.{IsRemove, Removes}
 use Rattle.mf_convert.specs.Convert as convert
 use Rattle.mf_convert.specs.Convert.{IsConversion, IsConvert, Converts, whole}
-use Rattle.mf_convert.proofs.Steady.{IsOp, AreOps, whole_ops, cut_ops}
+use Rattle.mf_convert.proofs.Steady.{whole_ops, cut_ops, probes_ops}
 
 -- ---- create
 
-quiet_probes : (xs : List Name) (ss : List State) → AreQuiet (probes xs ss)
-quiet_probes [] ss = tt
-quiet_probes (x ∷ xs) [] = tt
-quiet_probes (x ∷ xs) (s ∷ ss) = (tt, quiet_probes xs ss)
+pub bring_ops : (x : Name) (s : State) → AreOps (bring x s)
+bring_ops x state.Unborn = (tt, tt)
+bring_ops x state.Here = tt
+bring_ops x (state.Lost l) = (tt, tt)
+bring_ops x (state.Away s) = tt
 
-quiet_bring : (x : Name) (s : State) → AreQuiet (bring x s)
-quiet_bring x state.Unborn = (tt, tt)
-quiet_bring x state.Here = tt
-quiet_bring x (state.Lost l) = (tt, tt)
-quiet_bring x (state.Away s) = tt
-
-quiet_brings : (xs : List Name) (ss : List State) → AreQuiet (brings xs ss)
-quiet_brings [] ss = tt
-quiet_brings (x ∷ xs) [] = tt
-quiet_brings (x ∷ xs) (s ∷ ss) = quiet_append (bring x s) (brings xs ss) (quiet_bring x s) (quiet_brings xs ss)
+pub brings_ops : (xs : List Name) (ss : List State) → AreOps (brings xs ss)
+brings_ops [] ss = tt
+brings_ops (x ∷ xs) [] = tt
+brings_ops (x ∷ xs) (s ∷ ss) = ops_then (bring x s) (brings xs ss) (bring_ops x s) (brings_ops xs ss)
 
 built : (gs : List ℕ) (xs ys : List Call) (a : Actor) → IsIdle a → AreQuiet xs → AreQuiet ys
     → Leaves a (did_all (xs ++ (ys ++ (publish 1 ∷ end ∷ []))) (entered gs pinned.Absent a))
@@ -62,8 +57,9 @@ create_leaves f (create.was_there gs g) a idle = worked gs g [] a tt
 create_leaves f (create.was_removed gs) a idle = turned gs pinned.Removed a idle refl
 create_leaves f (create.no_memory gs) a idle = turned gs pinned.Absent a idle refl
 create_leaves f (create.created gs ss long) a idle =
-    built gs (probes (first_names f) ss) (brings (first_names f) ss) a idle (quiet_probes (first_names f) ss)
-    (quiet_brings (first_names f) ss)
+    let xs = first_names f in
+    built gs (probes xs ss) (brings xs ss) a idle (ops_quiet (probes xs ss) (probes_ops xs ss))
+    (ops_quiet (brings xs ss) (brings_ops xs ss))
 
 pub creates_leaves : {o : Change} {a b : Actor} → Creates o a b → IsIdle a → Leaves a b
 creates_leaves {a = a} x idle = subst (Leaves a) (sym x.does.becomes) (create_leaves a.facts x.licence a idle)
@@ -86,25 +82,6 @@ pub removes_leaves : {o : Change} {a b : Actor} → Removes o a b → IsIdle a �
 removes_leaves {a = a} x idle = subst (Leaves a) (sym x.does.becomes) (remove_leaves a.facts x.licence a idle)
 
 -- ---- convert
-
-op_quiet : (c : Call) → IsOp c → IsQuiet c
-op_quiet (probe x s) op = tt
-op_quiet (put x) op = tt
-op_quiet (restore x) op = tt
-op_quiet (get x o) op = tt
-op_quiet (cut_off s) op = absurd op
-op_quiet (pin slot gs p) op = absurd op
-op_quiet (unpin slot) op = absurd op
-op_quiet (begin b) op = absurd op
-op_quiet end op = absurd op
-op_quiet (publish next) op = absurd op
-op_quiet (close g c) op = absurd op
-op_quiet (discard x b) op = absurd op
-op_quiet (lose x l b) op = absurd op
-
-ops_quiet : (cs : List Call) → AreOps cs → AreQuiet cs
-ops_quiet [] ops = tt
-ops_quiet (c ∷ cs) ops = (op_quiet c ops.0, ops_quiet cs ops.1)
 
 quiet_conversion : {f : Facts} {g : ℕ} {o : Change} {done : List Call} → IsConversion f g o done → AreQuiet done
 quiet_conversion {f = f} {g = g} (convert.converted states made all) =

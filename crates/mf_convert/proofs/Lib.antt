@@ -23,3 +23,4 @@ pub mod Converted
 pub mod Dataless
 pub mod OneEnd
 pub mod OnceConverted
+mod Gained

@@ -11,23 +11,12 @@ use Rattle.mf_vault.specs.Actor.{Actor, Call, did}
 use Rattle.mf_vault.specs.Actor as call
 use Rattle.mf_vault.specs.Licence.{Does, did_all}
 use Rattle.mf_vault.proofs.Doing.{facts_stay}
+use Rattle.mf_vault.proofs.Leaving.{IsOp, AreOps, ops_then}
 use Rattle.mf_convert.specs.declared.change.Change.{Change}
 use Rattle.mf_convert.specs.Create.{probes}
 use Rattle.mf_convert.specs.Convert as convert
 use Rattle.mf_convert.specs.Convert.{IsCut, gets, make, makes, whole, names_of, sources}
 use Rattle.mf_convert.specs.Converting.{IsConverter}
-
--- a chunk operation that a conversion makes
-abbrev pub IsOp : Call → Type 0
-IsOp (call.probe x s) = Unit {0}
-IsOp (call.put x) = Unit {0}
-IsOp (call.restore x) = Unit {0}
-IsOp (call.get x o) = Unit {0}
-IsOp c = ⊥
-
-abbrev pub AreOps : List Call → Type 0
-AreOps [] = Unit {0}
-AreOps (c ∷ cs) = IsOp c × AreOps cs
 
 -- the right, the pins, the number looked at and the cut-off servers stay
 pub record Stays (a b : Actor) : Type 0 where
@@ -106,10 +95,6 @@ converter_stays {g = g} d h k = let s = stays d h in record {
 }
 
 -- ---- all that is due are such operations
-
-pub ops_then : (cs ds : List Call) → AreOps cs → AreOps ds → AreOps (cs ++ ds)
-ops_then [] ds h k = k
-ops_then (c ∷ cs) ds h k = (h.0, ops_then cs ds h.1 k)
 
 pub gets_ops : (f : Facts) (xs : List Name) → AreOps (gets f xs)
 gets_ops f [] = tt

@@ -1,5 +1,5 @@
 -- What follows of a create, a convert and a remove.
-use Rattle.std.specs.Prelude.{◌≡◌, ◌≢◌, ℕ, List, [], ◌∷◌, ◌++◌, Option, Some}
+use Rattle.std.specs.Prelude.{◌≡◌, ◌≢◌, ℕ, ◌+◌, List, [], ◌∷◌, ◌++◌, Option, Some}
 use Rattle.mf_machine.specs.Worlds.{World}
 use Rattle.mf_places.specs.declared.Name.{Name}
 use Rattle.mf_places.specs.declared.Name.TheVariants as name
@@ -9,6 +9,8 @@ use Rattle.mf_vault.specs.declared.answers.Op.TheVariants as op
 use Rattle.mf_vault.specs.Actor.{Actor, Call}
 use Rattle.mf_vault.specs.Actor as call
 use Rattle.mf_vault.specs.Counting.{io_of}
+use Rattle.mf_vault.specs.Facts.{Facts, stages}
+use Rattle.mf_vault.specs.Gains.{EngineGains}
 use Rattle.mf_convert.specs.declared.change.Change.{Change}
 use Rattle.mf_convert.specs.declared.change.Change.TheVariants as change
 use Rattle.mf_convert.specs.Create.{Creates}
@@ -62,3 +64,31 @@ abbrev pub ReadsNoData : Type 0
 ReadsNoData = (a b : Actor) (upto : ℕ) (stop : Option ℕ) (o : Change) → (x : Converts upto stop o a b)
     → AllGetNoData x.calls × ((entries : List Entry) × (b.entries ≡ a.entries ++ entries) × AllTellNoData entries
     × ((io_of entries).pieces ≡ 0) × ((io_of entries).copies ≡ 0))
+
+-- The number that a change publishes: 1 where it created the file, that of the generation converted to, or the one that
+-- says that the file is removed.
+abbrev pub published_by : Facts → Change → List ℕ
+published_by f change.Created = 1 ∷ []
+published_by f (change.Converted from to made) = (to + 1) ∷ []
+published_by f change.RemovedNow = (stages f + 1) ∷ []
+published_by f o = []
+
+-- How often a change that ends so has taken the right, and was refused it.
+abbrev pub rights_of : Change → ℕ
+rights_of change.Busy = 0
+rights_of o = 1
+
+abbrev pub refusals_of : Change → ℕ
+refusals_of change.Busy = 1
+refusals_of o = 0
+
+-- A change publishes just its outcome's number and closes nothing, and takes the right once, or was refused it where it
+-- is Busy; beside that Made and Met grow by its entries and its pin.
+abbrev pub Gains : (a b : Actor) → Change → List Call → Type 0
+Gains a b o calls = EngineGains calls (published_by a.facts o) (rights_of o) (refusals_of o) a b
+
+pub record ChangesGain : Type 0 where
+  pub create : (a b : Actor) (o : Change) → (x : Creates o a b) → Gains a b o x.calls
+  pub convert : (a b : Actor) (upto : ℕ) (stop : Option ℕ) (o : Change) → (x : Converts upto stop o a b)
+      → Gains a b o x.calls
+  pub remove : (a b : Actor) (o : Change) → (x : Removes o a b) → Gains a b o x.calls

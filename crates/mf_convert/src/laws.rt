@@ -1,5 +1,6 @@
 //! What follows of creating, converting and removing a file.
-ghost use Rattle.mf_convert.specs.Laws.{CreatesOnce, RemovesOnce, ConvertsOnce, ReadsNoData};
+ghost use Rattle.mf_convert.specs.Laws.{ChangesGain, ConvertsOnce, CreatesOnce, ReadsNoData};
+ghost use Rattle.mf_convert.specs.Laws.{RemovesOnce};
 
 /// Where the whole state is told, a create that had its memory has one outcome, and leaves one
 /// actor.
@@ -21,4 +22,11 @@ pub fn convert_has_one_result()
 /// A convert makes no get of data or of a copy, whatever the answer.
 pub fn no_data_is_read()
     ensures { ReadsNoData }
+{}
+
+/// What a create, a convert or a remove adds to its actor's Made and Met is what its entries say,
+/// its begin, its pin, and the one publishing of a Created, Converted or RemovedNow. It is Busy just
+/// where its one begin was answered false.
+pub fn changes_gain()
+    ensures { ChangesGain }
 {}

@@ -22,7 +22,8 @@
 //! next generation, all gets, and a put or restore of each parity that wasn't there; it says the
 //! first name that it needed and didn't have; and it stops after just so many chunk operations. Each
 //! of the three leaves the actor with its right given back and its Work slot free (`Leaves`). Laws:
-//! a convert reads no data and no copy; alone, each has one outcome and leaves one actor, want of
+//! a convert reads no data and no copy; Made and Met grow just by each one's entries, its begin, its
+//! pin and the one number that it publishes; alone, each has one outcome and leaves one actor, want of
 //! memory aside.
 //!
 //! *Only tested.* Conversions worked by hand, with their counts.
@@ -41,6 +42,7 @@ pub use change::Change;
 pub use converting::convert;
 pub use creating::create;
 pub use laws::{
-    convert_has_one_result, create_has_one_result, no_data_is_read, remove_has_one_result,
+    changes_gain, convert_has_one_result, create_has_one_result, no_data_is_read,
+    remove_has_one_result,
 };
 pub use removing::remove;

@@ -6,7 +6,7 @@ use Rattle.std.proofs.lemmas.List.{ext_get_or}
 use mathlib.Core.Logic.{dite}
 use native.Mathlib.Decide.{ℕ_discrete, dec_le}
 use Rattle.mf_machine.specs.declared.view.View.{View}
-use Rattle.mf_machine.specs.Actors.{PinHolds}
+use Rattle.mf_machine.specs.Actors.{PinHolds, live}
 use Rattle.mf_machine.specs.Counts.{times}
 use Rattle.mf_machine.specs.File.{File, IsLoseLine, HasCell, name_word}
 use Rattle.mf_machine.specs.File.Home.{keeps}
@@ -18,6 +18,7 @@ use Rattle.mf_machine.proofs.Tells as tells
 use Rattle.mf_machine.proofs.Words.{cell_is}
 use Rattle.mf_vault.specs.Facts.{Facts, file, stages}
 use Rattle.mf_vault.specs.Licence.{Holding}
+use Rattle.mf_vault.proofs.Closing as closing
 use Rattle.mf_plain.specs.Alone.{Stored, world}
 
 module _ (f : Facts) (s : Stored) (v : View) (h : ∥ Holding f (world s v) ∥₁) where
@@ -49,6 +50,16 @@ module _ (f : Facts) (s : Stored) (v : View) (h : ∥ Holding f (world s v) ∥�
       let few = few_pins (file f) f.opening (read (file f) now) g r.ruled in
       dite (ℕ_discrete (sums.tally f.opening (v ∷ []) (answers.closed g)) 0) (λ z. omega arith)
       (λ n. let c = (p.low (omega arith)).0 in absurd (omega arith)))
+
+  -- the actor's pins are among those of an open generation, and a closed one has none
+  pub own_counted : (g : ℕ) → g < stages f → word_of now (g + 2) < 9223372036854775808
+      → live g v ≤ word_of now (g + 2)
+  own_counted g l low = known (live g v) (word_of now (g + 2))
+      (λ r. closing.own_counted (file f) f.opening (read (file f) now) r.ruled 0 v refl g l low)
+
+  pub own_none : (g : ℕ) → g < stages f → 9223372036854775808 ≤ word_of now (g + 2) → live g v ≤ 0
+  own_none g l high = known (live g v) 0
+      (λ r. closing.own_none (file f) f.opening (read (file f) now) r.ruled 0 v refl g l high)
 
   -- the holder of the right, which looked since its begin, looked at the present number
   pub current : v.build.right ≡ 1 → v.build.looked ≡ 1 → v.last ≡ s.number + 1

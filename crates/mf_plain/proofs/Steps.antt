@@ -29,6 +29,7 @@ use Rattle.mf_vault.specs.Actor as call
 use Rattle.mf_vault.specs.Answers.{IsNumber, FairClose}
 use Rattle.mf_vault.specs.Licence.{IsReady, erased}
 use Rattle.mf_vault.specs.May.{MayPin, MayUnpin, MayPublish, MayClose}
+use Rattle.mf_vault.proofs.Closing.{fair_close}
 use Rattle.mf_plain.specs.declared.known.Known.{Known}
 use Rattle.mf_plain.specs.Alone.{Stored, world, actor_at, pins_of}
 use Rattle.mf_plain.specs.Standing.{facts_at, Tied, Stands}
@@ -55,13 +56,6 @@ close_word false p l =
     (9223372036854775808 * truth false + p)
     ≡ 9223372036854775808 * truth (shut_by (row.close_answer (9223372036854775808 * truth false + p)) false) + p) refl
     refl refl p l
-
-close_fair : (shut : Bool) (p : ℕ) → p ≤ 2 → FairClose (row.close_answer (9223372036854775808 * truth shut + p))
-close_fair true p l = few (λ p. FairClose (row.close_answer (9223372036854775808 * truth true + p))) tt tt tt p l
-close_fair false p l =
-    few (λ p. FairClose (row.close_answer (9223372036854775808 * truth false + p))) tt (let z : 0 < 1 = omega arith in
-    z)
-    (let z : 0 < 2 = omega arith in z) p l
 
 closed_sees : (c : Closed) (g i x : ℕ) (v : View)
     → erased (counted i x (row.close_view c g v)) ≡ row.close_view c g (erased v)
@@ -365,7 +359,8 @@ module _ {b : BookFacts} {born ticks : ℕ} {k : Known} {s : Stored} {es : List 
       }) v₁ to
       ((active, idle, m.0, m.1), tt) (closed_sees c g (g + 2) x v)
       (closed_kept c g x) (length-set s.closed g (shut_by c shut)) refl
-      (subst FairClose (sym answer) (close_fair shut p few)) told
+      (subst (λ y. FairClose g y (erased v)) (sym told) (fair_close g x (erased v)
+      (facts.own_counted f s v st.holding g m.0) (facts.own_none f s v st.holding g m.0))) told
     where
       closed_kept : (c : Closed) (g x : ℕ)
           → Tied (record s { closed = set s.closed g (shut_by c shut) }) (counted (g + 2) x (row.close_view c g v))

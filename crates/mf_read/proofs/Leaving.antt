@@ -9,45 +9,46 @@ use Rattle.mf_vault.specs.Actor.{Actor, Call, did, pin, unpin, get}
 use Rattle.mf_vault.specs.Licence.{did_all}
 use Rattle.mf_vault.specs.Conditions.{IsIdle, Leaves}
 use Rattle.mf_vault.proofs.Entering.{tried_right, tried_hold}
-use Rattle.mf_vault.proofs.Leaving.{AreQuiet, quiet_all, quiet_append, did_both, stays_leaves, unpinned_leaves}
+use Rattle.mf_vault.proofs.Leaving.{AreQuiet, AreOps, quiet_all, ops_then, ops_quiet, did_both, stays_leaves}
+use Rattle.mf_vault.proofs.Leaving.{unpinned_leaves}
 use Rattle.mf_read.specs.declared.outcome.ReadOutcome.{ReadOutcome}
 use Rattle.mf_read.specs.declared.outcome.ReadOutcome.TheVariants as read
 use Rattle.mf_read.specs.Asking.{Ask, here, gets}
 use Rattle.mf_read.specs.Reading.{IsEnd, Ends, IsReadOf, IsThrough, IsRead, Reads}
 
-pub quiet_gets : (f : Facts) (asks : List Ask) → AreQuiet (gets f asks)
-quiet_gets f [] = tt
-quiet_gets f (a ∷ asks) = (tt, quiet_gets f asks)
+pub gets_ops : (f : Facts) (asks : List Ask) → AreOps (gets f asks)
+gets_ops f [] = tt
+gets_ops f (a ∷ asks) = (tt, gets_ops f asks)
 
-pub quiet_cut : (f : Facts) (asks rest : List Ask) (cs : List Call) → ((cs ≡ gets f asks)
+pub cut_ops : (f : Facts) (asks rest : List Ask) (cs : List Call) → ((cs ≡ gets f asks)
     ⊎ ((x : Name) × (others : List Ask) × (rest ≡ record { name = x; found = here } ∷ others)
-    × (cs ≡ gets f asks ++ get x got.Memory ∷ []))) → AreQuiet cs
-quiet_cut f asks rest cs (inl e) = subst AreQuiet (sym e) (quiet_gets f asks)
-quiet_cut f asks rest cs (inr (x, others, is, e)) = subst AreQuiet (sym e)
-    (quiet_append (gets f asks) (get x got.Memory ∷ []) (quiet_gets f asks) (tt, tt))
+    × (cs ≡ gets f asks ++ get x got.Memory ∷ []))) → AreOps cs
+cut_ops f asks rest cs (inl e) = subst AreOps (sym e) (gets_ops f asks)
+cut_ops f asks rest cs (inr (x, others, is, e)) = subst AreOps (sym e)
+    (ops_then (gets f asks) (get x got.Memory ∷ []) (gets_ops f asks) (tt, tt))
 
-quiet_end : (f : Facts) (g j : ℕ) (o : ReadOutcome) (cs : List Call) → IsEnd f g j o cs → AreQuiet cs
-quiet_end f g j (read.DataLost h k names) cs (asks, e, i, short, is, same, more) =
-    subst AreQuiet (sym is) (quiet_gets f asks)
-quiet_end f g j (read.Unreachable h k x server) cs (asks, e, i, short, is, low, more) =
-    subst AreQuiet (sym is) (quiet_gets f asks)
-quiet_end f g j read.Memory cs (asks, rest, asking, either) = quiet_cut f asks rest cs either
-quiet_end f g j read.Absent cs e = absurd e
-quiet_end f g j read.Removed cs e = absurd e
-quiet_end f g j (read.Bytes h bytes from) cs e = absurd e
+end_ops : (f : Facts) (g j : ℕ) (o : ReadOutcome) (cs : List Call) → IsEnd f g j o cs → AreOps cs
+end_ops f g j (read.DataLost h k names) cs (asks, e, i, short, is, same, more) =
+    subst AreOps (sym is) (gets_ops f asks)
+end_ops f g j (read.Unreachable h k x server) cs (asks, e, i, short, is, low, more) =
+    subst AreOps (sym is) (gets_ops f asks)
+end_ops f g j read.Memory cs (asks, rest, asking, either) = cut_ops f asks rest cs either
+end_ops f g j read.Absent cs e = absurd e
+end_ops f g j read.Removed cs e = absurd e
+end_ops f g j (read.Bytes h bytes from) cs e = absurd e
 
-quiet_ends : (f : Facts) (g : ℕ) (o : ReadOutcome) (cs : List Call) → Ends f g o cs → AreQuiet cs
-quiet_ends f g o cs (j, front, rest, served, ends, is) = subst AreQuiet (sym is)
-    (quiet_append (gets f front) rest (quiet_gets f front) (quiet_end f g j o rest ends))
+ends_ops : (f : Facts) (g : ℕ) (o : ReadOutcome) (cs : List Call) → Ends f g o cs → AreOps cs
+ends_ops f g o cs (j, front, rest, served, ends, is) = subst AreOps (sym is)
+    (ops_then (gets f front) rest (gets_ops f front) (end_ops f g j o rest ends))
 
-quiet_read : (f : Facts) (g : ℕ) (o : ReadOutcome) (cs : List Call) → IsReadOf f g o cs → AreQuiet cs
-quiet_read f g (read.Bytes h bytes from) cs (asks, e, served, is, same, from_is) = subst AreQuiet (sym is)
-    (quiet_gets f asks)
-quiet_read f g (read.DataLost h k names) cs ends = quiet_ends f g (read.DataLost h k names) cs ends
-quiet_read f g (read.Unreachable h k x server) cs ends = quiet_ends f g (read.Unreachable h k x server) cs ends
-quiet_read f g read.Memory cs ends = quiet_ends f g read.Memory cs ends
-quiet_read f g read.Absent cs ends = quiet_ends f g read.Absent cs ends
-quiet_read f g read.Removed cs ends = quiet_ends f g read.Removed cs ends
+pub read_ops : (f : Facts) (g : ℕ) (o : ReadOutcome) (cs : List Call) → IsReadOf f g o cs → AreOps cs
+read_ops f g (read.Bytes h bytes from) cs (asks, e, served, is, same, from_is) = subst AreOps (sym is)
+    (gets_ops f asks)
+read_ops f g (read.DataLost h k names) cs ends = ends_ops f g (read.DataLost h k names) cs ends
+read_ops f g (read.Unreachable h k x server) cs ends = ends_ops f g (read.Unreachable h k x server) cs ends
+read_ops f g read.Memory cs ends = ends_ops f g read.Memory cs ends
+read_ops f g read.Absent cs ends = ends_ops f g read.Absent cs ends
+read_ops f g read.Removed cs ends = ends_ops f g read.Removed cs ends
 
 through_leaves : (g : ℕ) (inner cs : List Call) (a : Actor) → IsIdle a → AreQuiet inner
     → IsThrough a.view.hold g inner cs → Leaves a (did_all cs a)
@@ -69,13 +70,13 @@ read_leaves : (o : ReadOutcome) (cs : List Call) (a : Actor) → IsIdle a → Is
 read_leaves read.Absent cs a idle (free, (gs, is)) = unpinned_leaves gs pinned.Absent cs a idle refl is
 read_leaves read.Removed cs a idle (free, (gs, is)) = unpinned_leaves gs pinned.Removed cs a idle refl is
 read_leaves (read.Bytes h bytes from) cs a idle (g, inner, is, through) =
-    through_leaves g inner cs a idle (quiet_read a.facts g (read.Bytes h bytes from) inner is) through
+    through_leaves g inner cs a idle (ops_quiet inner (read_ops a.facts g (read.Bytes h bytes from) inner is)) through
 read_leaves (read.DataLost h k names) cs a idle (g, inner, is, through) =
-    through_leaves g inner cs a idle (quiet_read a.facts g (read.DataLost h k names) inner is) through
+    through_leaves g inner cs a idle (ops_quiet inner (read_ops a.facts g (read.DataLost h k names) inner is)) through
 read_leaves (read.Unreachable h k x server) cs a idle (g, inner, is, through) =
-    through_leaves g inner cs a idle (quiet_read a.facts g (read.Unreachable h k x server) inner is) through
+    through_leaves g inner cs a idle (ops_quiet inner (read_ops a.facts g (read.Unreachable h k x server) inner is)) through
 read_leaves read.Memory cs a idle (g, inner, is, through) =
-    through_leaves g inner cs a idle (quiet_read a.facts g read.Memory inner is) through
+    through_leaves g inner cs a idle (ops_quiet inner (read_ops a.facts g read.Memory inner is)) through
 
 pub reads_leaves : (o : ReadOutcome) {a b : Actor} → Reads o a b → IsIdle a → Leaves a b
 reads_leaves o {a = a} (cs, is, does) idle =

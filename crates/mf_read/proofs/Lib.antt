@@ -15,3 +15,4 @@ pub mod Handed
 pub mod Stripewise
 pub mod OnceRead
 pub mod OneRead
+mod Gained

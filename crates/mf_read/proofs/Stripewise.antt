@@ -30,7 +30,7 @@ use Rattle.mf_vault.specs.Actor.{Actor, Call, pin, unpin, get, did}
 use Rattle.mf_vault.specs.Answers.{Goes}
 use Rattle.mf_vault.specs.Licence.{Does, IsKept, IsFile, did_all}
 use Rattle.mf_vault.proofs.Doing.{nothing, then, one, more, facts_stay, entries_are}
-use Rattle.mf_vault.proofs.Entering.{tried_work}
+use Rattle.mf_vault.proofs.Entering.{tried_work, pin_is}
 use Rattle.mf_read.specs.declared.outcome.ReadOutcome.{ReadOutcome}
 use Rattle.mf_read.specs.declared.outcome.ReadOutcome.TheVariants.{Bytes, Absent, Removed, DataLost, Unreachable}
 use Rattle.mf_read.specs.declared.outcome.ReadOutcome.TheVariants.{Memory}
@@ -309,7 +309,7 @@ work_pinned g missed {a = a} {b = b} goes =
     let d = bit_is b.view.work (g + 1) e in
     record {
       stage = subst (λ (k : Facts). g < stages k) (sym (ap (λ
-          (z : Actor). z.facts) goes.becomes)) goes.fair.0;
+          (z : Actor). z.facts) goes.becomes)) (pin_is a.facts missed (pinned.At g) a.view goes.fair).0;
       pinned = omega arith;
     }
 

@@ -5,6 +5,7 @@ use Rattle.std.specs.declared.alloc.Global.{Global}
 use Rattle.mf_machine.specs.Worlds.{World}
 use Rattle.mf_places.specs.Facts.{BookFacts}
 use Rattle.mf_vault.specs.Actor.{Actor}
+use Rattle.mf_vault.specs.Gains.{EngineGains}
 use Rattle.mf_read.specs.declared.outcome.ReadOutcome.{ReadOutcome}
 use Rattle.mf_read.specs.declared.outcome.ReadOutcome.TheVariants.{Bytes, Memory}
 use Rattle.mf_read.specs.Asking.{Ask, IsShort, lost_in, away_in}
@@ -24,3 +25,7 @@ IsSame o p = p ≡ o
 abbrev pub OneResult : Type 0
 OneResult = (a b c : Actor) (w : World) (o p : ReadOutcome) → a.whole ≡ Some w → Reads o a b → Reads p a c
     → o ≢ Memory → p ≢ Memory → IsSame o p × (b ≡ c)
+
+-- a read publishes nothing, takes no right and closes nothing; Made and Met grow by its entries and its pin
+abbrev pub ReadsGain : Type 0
+ReadsGain = (a b : Actor) (o : ReadOutcome) → (x : Reads o a b) → EngineGains x.0 [] 0 0 a b

@@ -23,7 +23,8 @@
 //! unreachable only where no more are lost. `read_into` does what such a read does (`ReadsInto`). It
 //! has handed on the file's bytes; where a stripe couldn't be had, those of the stripes before; where
 //! memory ran out, a front. Laws: a short asking without a name that is away lacks more than is
-//! borne; a read of an actor alone has one outcome and leaves one actor, want of memory aside.
+//! borne; Made and Met grow just by its entries and its pin; a read of an actor alone has one outcome
+//! and leaves one actor, want of memory aside.
 //!
 //! *Neither.* Speed.
 #![tactic(auto)]
@@ -39,7 +40,7 @@ mod taking;
 mod texts;
 
 pub use gathering::gather_stripe;
-pub use law::{read_has_one_result, short_has_lost};
+pub use law::{read_has_one_result, reads_gain, short_has_lost};
 pub use mf_check::Family;
 pub use mf_decode::{Memory, PlanCache};
 pub use mf_vault::{Fetch, Name};

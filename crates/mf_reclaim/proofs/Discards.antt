@@ -31,7 +31,7 @@ by_holding : (h s : Bool) → (not h || s) ≡ true → h ≡ true → s ≡ tru
 by_holding true s e h = e
 by_holding false s e h = absurd (false≢true h)
 
-free_shut : (b : BookFacts) (answers : List Closed) (x : Name) (g : ℕ) → is_free b answers x ≡ true
+pub free_shut : (b : BookFacts) (answers : List Closed) (x : Name) (g : ℕ) → is_free b answers x ≡ true
     → g < length b.shape.stages → holds b g x ≡ true → was_shut answers g ≡ true
 free_shut b answers x g free low held =
     let q = length b.shape.stages in

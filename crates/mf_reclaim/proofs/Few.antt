@@ -12,9 +12,11 @@ use Rattle.mf_places.proofs.Names.{count_of-is}
 use Rattle.mf_places.proofs.Counts.{first_in-le}
 use Rattle.mf_shape.specs.Stages.{max_width}
 use Rattle.mf_shape.proofs.Widths.{max_width-le-limit}
+use Rattle.mf_vault.specs.declared.answers.Pinned.TheVariants as pinned
 use Rattle.mf_vault.specs.Facts.{Facts, stages}
 use Rattle.mf_vault.specs.Actor.{Actor, Call, entry_of}
 use Rattle.mf_vault.specs.Licence.{Does, entries_of}
+use Rattle.mf_vault.proofs.Entering.{pin_is}
 use Rattle.mf_reclaim.specs.declared.outcome.ReclaimOutcome.{ReclaimOutcome}
 use Rattle.mf_reclaim.specs.Reclaim as licence
 use Rattle.mf_reclaim.specs.Reclaim.{Reclaims, IsReclaim, Learns, closes, discards, is_free, free_names}
@@ -40,7 +42,8 @@ learns_none (licence.removed gs) = refl
 learns_low : {f : Facts} {end : ℕ} {first : List Call} (rest : List Call) {a b : Actor} → Learns f end first
     → f ≡ a.facts
     → Does (first ++ rest) a b → end ≤ stages a.facts
-learns_low rest (licence.published gs g) e d = let low = d.fair.0.0 in omega arith
+learns_low rest {a = a} (licence.published gs g) e d =
+    let low = (pin_is a.facts gs (pinned.At g) a.view d.fair.0).0 in omega arith
 learns_low rest (licence.removed gs) e d = let same = ap stages e in omega arith
 
 count_few : (b : BookFacts) → IsBook b → count_of b ≤ 300000

@@ -5,3 +5,5 @@ pub mod Once
 pub mod Few
 pub mod Leaving
 mod Pinned
+mod Sparing
+mod Gained

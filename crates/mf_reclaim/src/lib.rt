@@ -18,14 +18,15 @@
 //! where the file is removed, and then each name that only closed ones hold is discarded, in order;
 //! so a parity that an open generation holds stays, and nothing is discarded before the closes. Its
 //! counts and the generations with pins are those of the answers. Want of memory comes before all
-//! else. The Work slot is free at each close. Laws: a reclaim of an actor alone has one outcome and
-//! leaves one actor, want of memory aside.
+//! else. The Work slot is free at each close. Laws: no name of the generation that its own client
+//! holds is discarded; Made and Met grow just by its entries and its pin; a reclaim of an actor alone
+//! has one outcome and leaves one actor, want of memory aside.
 #![tactic(auto)]
 
 mod laws;
 mod outcome;
 mod reclaiming;
 
-pub use laws::reclaim_has_one_result;
+pub use laws::{held_stays, reclaim_has_one_result, reclaims_gain};
 pub use outcome::{PinCounts, ReclaimOutcome};
 pub use reclaiming::reclaim;

@@ -1,6 +1,6 @@
 -- The entries of a repair are few: at most 588 a stripe.
 use Rattle.std.proofs.Common.{◌≡◌, ℕ, zero, suc, ◌+◌, ◌*◌, ◌^◌, ◌<◌, ◌≤◌, List, [], ◌∷◌, ◌++◌, length, map, take}
-use Rattle.std.proofs.Common.{refl, sym}
+use Rattle.std.proofs.Common.{refl, sym, true}
 use Rattle.std.proofs.Common.{ap, ◌∙◌, subst, ⊎_elim, arith, append_assoc, length-append}
 use Rattle.std.specs.List.{range_with_len, flat_map}
 use Rattle.std.proofs.lemmas.List.FromFn.{length-range_with_len, length-map-range_with_len}
@@ -18,13 +18,15 @@ use Rattle.mf_places.specs.Generations.{copies_of_stripe, parities_of_stripe}
 use Rattle.mf_places.proofs.Counts.{div_ceil-le}
 use Rattle.mf_shape.specs.Stages.{width_at, copies_at, parities_at}
 use Rattle.mf_vault.specs.Facts.{Facts, stages}
+use Rattle.mf_vault.specs.declared.answers.Pinned.TheVariants as pinned
 use Rattle.mf_vault.specs.Actor as call
-use Rattle.mf_vault.specs.Actor.{Actor, Call, entry_of}
+use Rattle.mf_vault.specs.Actor.{Actor, Call, did, entry_of}
 use Rattle.mf_vault.specs.declared.answers.Got.TheVariants as got
 use Rattle.mf_vault.specs.Licence.{Does, entries_of}
 use Rattle.mf_read.specs.Asking.{Found, Ask, here, lost, away, still, IsAsked, AreAsked, IsAsking, IsCut, homes_of}
 use Rattle.mf_read.specs.Asking.{joined, missing, gets}
 use Rattle.mf_read.specs.Reading.{stripes}
+use Rattle.mf_vault.proofs.Entering.{pin_is}
 use Rattle.mf_repair.specs.declared.outcome.RepairOutcome.{RepairOutcome}
 use Rattle.mf_repair.specs.Repair as licence
 use Rattle.mf_repair.specs.Repair.{probes, if_lost, lost_names, restores, IsMended, AreMended, IsCutMend, IsEnd}
@@ -273,7 +275,7 @@ by_licence book licence.busy d = omega arith
 by_licence book (licence.absent gs) d = omega arith
 by_licence book (licence.removed gs) d = omega arith
 by_licence {a = a} book (licence.through o gs g inner is) d =
-    let n = generation_few book d.fair.1.0.0 is in
+    let n = generation_few book (pin_is a.facts gs (pinned.At g) (did (call.begin true) a).view d.fair.1.0).0 is in
     let e = entries_two inner (call.unpin Work ∷ call.end ∷ []) in
     omega arith
 

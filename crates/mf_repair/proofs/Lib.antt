@@ -10,3 +10,4 @@ pub mod Bounded
 pub mod Leaving
 mod Mended
 pub mod OneRepair
+mod Gained

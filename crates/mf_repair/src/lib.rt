@@ -18,8 +18,9 @@
 //! reader's and, where that has all data, a restore of just the names whose probe said lost. Data
 //! is lost only where more names were found lost than the generation bears, each listed once, in
 //! the order found by probes and gets; else the first name found away is named. Restored bytes are
-//! their cells. The Work slot and the right are free again. Laws: a repair of an actor alone has
-//! one outcome and leaves one actor, want of memory aside.
+//! their cells. The Work slot and the right are free again. Laws: Made and Met grow just by its
+//! entries, its begin and its pin; a repair of an actor alone has one outcome and leaves one actor,
+//! want of memory aside.
 //!
 //! *Neither.* Speed.
 #![tactic(auto)]
@@ -33,7 +34,7 @@ mod repairing;
 mod restoring;
 mod short;
 
-pub use laws::repair_has_one_result;
+pub use laws::{repair_has_one_result, repairs_gain};
 pub use mf_check::Family;
 pub use mf_read::LostNames;
 pub use mf_vault::{Fetch, Name};

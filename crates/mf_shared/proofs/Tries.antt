@@ -19,7 +19,7 @@ use Rattle.mf_vault.specs.declared.answers.Pinned.{Pinned}
 use Rattle.mf_vault.specs.declared.answers.Pinned.TheVariants.{At, Absent, Removed}
 use Rattle.mf_vault.specs.Actor.{Actor, tried, pinned}
 use Rattle.mf_vault.specs.Actor as call
-use Rattle.mf_vault.specs.Answers.{Goes, IsPin}
+use Rattle.mf_vault.specs.Answers.{Goes, IsPin, LooksRise}
 use Rattle.mf_vault.specs.Facts.{Facts, stages}
 use Rattle.mf_vault.specs.Licence.{erased}
 use Rattle.mf_gate.specs.declared.gate.Pass.{Pass}
@@ -62,6 +62,21 @@ missed_more : (g : ℕ) (gs : List ℕ) (v : View)
 missed_more g [] v = refl
 missed_more g (h ∷ gs) v = missed_more g gs (missed h (looked (number_of h) v))
 
+-- the numbers of these generations never fall, from what was seen on
+abbrev Rises : Facts → List ℕ → View → Type 0
+Rises f [] v = Unit {0}
+Rises f (g ∷ gs) v = (g < stages f) × (v.seen.number ≤ number_of g) × Rises f gs (missed g (looked (number_of g) v))
+
+rises_more : (f : Facts) (g : ℕ) (gs : List ℕ) (v : View) → Rises f gs v → g < stages f
+    → (missed_all gs v).seen.number ≤ number_of g → Rises f (gs ++ g ∷ []) v
+rises_more f g [] v r low up = (low, up, tt)
+rises_more f g (h ∷ gs) v r low up = (r.0, r.1, rises_more f g gs (missed h (looked (number_of h) v)) r.2 low up)
+
+rises_to : (f : Facts) (gs : List ℕ) (p : Pinned) (v : View) → Rises f gs v → IsPin f p (missed_all gs v)
+    → LooksRise f gs p v
+rises_to f [] p v r i = i
+rises_to f (g ∷ gs) p v r i = (r.0, r.1, rises_to f gs p (missed g (looked (number_of g) v)) r.2 i)
+
 tried_all : (f : Facts) (slot : Slot) (gs : List ℕ) (p : Pinned) (v : View)
     → tried f slot gs p v ≡ pinned f slot p (missed_all gs v)
 tried_all f slot [] p v = refl
@@ -76,8 +91,8 @@ place_stays Work g v = refl
 pub record Turned (n : ℕ) (a b : Actor) : Type 0 where
   pub gs : List ℕ
   pub becomes : b ≡ record a { view = missed_all gs a.view }
+  pub rises : Rises a.facts gs a.view
   pub places : (slot : Slot) → slot_of slot b.view ≡ slot_of slot a.view
-  pub grown : a.view.seen.number ≤ b.view.seen.number
   pub rose : 0 < n → (n ≤ b.view.seen.number) × (b.view.seen.number ≤ stages a.facts)
       × SawShut (b.view.seen.number - 1) b.view
 
@@ -85,21 +100,22 @@ pub turned_none : (a : Actor) → Turned 0 a a
 turned_none a = record {
   gs = [];
   becomes = refl;
+  rises = tt;
   places = λ slot. refl;
-  grown = omega arith;
   rose = λ l. absurd (omega arith);
 }
 
 pub turned_more : (n g : ℕ) (a b c : Actor) → Turned n a b → Misses g b c → Turned (n + 1) a c
 turned_more n g a b c t m = let f = ap (λ (z : Actor). stages z.facts) t.becomes in
     let number : c.view.seen.number ≡ g + 1 = ap (λ (z : Actor). z.view.seen.number) m.becomes in
-    let stage = m.stage in let grows = m.grows in let grown = t.grown in record {
+    let stage = m.stage in let grows = m.grows in record {
       gs = t.gs ++ g ∷ [];
       becomes = m.becomes ∙ (ap (λ (z : Actor). record z { view = missed g (looked (number_of g) z.view) }) t.becomes
           ∙ ap (λ (v : View). record a { view = v }) (sym (missed_more g t.gs a.view)));
+      rises = rises_more a.facts g t.gs a.view t.rises (omega arith)
+          (subst (λ (z : Actor). z.view.seen.number ≤ number_of g) t.becomes grows);
       places = λ slot. ap (λ (z : Actor). slot_of slot z.view) m.becomes
           ∙ (place_stays slot g b.view ∙ t.places slot);
-      grown = omega arith;
       rose = λ _. (
         dite (ℕ_discrete n 0) (λ z. omega arith)
             (λ some. let r = t.rose (omega arith) in let low = r.0 in let top = r.1 in
@@ -117,11 +133,6 @@ pub turned_few : (n : ℕ) (a b : Actor) → Turned n a b → n ≤ stages a.fac
 turned_few n a b t = dite (ℕ_discrete n 0) (λ z. omega arith)
     (λ some. let r = t.rose (omega arith) in let low = r.0 in let top = r.1 in omega arith)
 
-fair_before : (f : Facts) (p : Pinned) (v u : View) → v.seen.number ≤ u.seen.number → IsPin f p u → IsPin f p v
-fair_before f (At g) v u l i = (i.0, (let h = i.1 in omega arith))
-fair_before f Absent v u l i = omega arith
-fair_before f Removed v u l i = omega arith
-
 -- a pin that is answered then ends the call
 pub turned_ends : (n : ℕ) (slot : Slot) (p : Pinned) (a b c : Actor) → a.whole ≡ None → Turned n a b
     → Goes (call.pin slot [] p) b c → (gs : List ℕ) × Goes (call.pin slot gs p) a c
@@ -131,8 +142,7 @@ turned_ends n slot p a b c alone t g = (
     becomes = g.becomes ∙ (ap (call.did (call.pin slot [] p)) t.becomes
         ∙ ap (λ (v : View). record (call.did (call.pin slot [] p) a) { view = v })
         (sym (tried_all a.facts slot t.gs p a.view)));
-    fair = fair_before a.facts p a.view b.view t.grown (subst (λ (f : Facts). IsPin f p b.view)
-        (ap (λ (z : Actor). z.facts) t.becomes) g.fair);
+    fair = rises_to a.facts t.gs p a.view t.rises (subst (λ (z : Actor). IsPin z.facts p z.view) t.becomes g.fair);
     told = rw alone tt;
   },
 )

@@ -1,5 +1,5 @@
 -- The begin and the pin of the Work slot with which an engine starts.
-use Rattle.std.proofs.Common.{◌≡◌, ℕ, ◌+◌, ◌<◌, true, List, [], ◌∷◌, refl, sym, ap, ◌∙◌, subst}
+use Rattle.std.proofs.Common.{◌≡◌, ℕ, ◌+◌, ◌<◌, ◌≤◌, true, List, [], ◌∷◌, refl, sym, ap, ◌∙◌, subst, arith}
 use Rattle.mf_machine.specs.declared.view.View.{View}
 use Rattle.mf_machine.specs.declared.answer.Slot.{Slot}
 use Rattle.mf_machine.specs.declared.answer.Slot.TheVariants.{Hold, Work}
@@ -8,9 +8,20 @@ use Rattle.mf_vault.specs.declared.answers.Pinned.{Pinned}
 use Rattle.mf_vault.specs.declared.answers.Pinned.TheVariants.{At, Absent, Removed}
 use Rattle.mf_vault.specs.Facts.{Facts, stages}
 use Rattle.mf_vault.specs.Actor.{Actor, begin, pin, tried}
-use Rattle.mf_vault.specs.Answers.{Goes, IsPin}
+use Rattle.mf_vault.specs.Answers.{Goes, IsPin, LooksRise}
 use Rattle.mf_vault.specs.Licence.{Entered, IsBuilding, number_of_pin, work_of_pin}
 use Rattle.mf_vault.proofs.Doing.{one, then}
+
+-- a pin's answer is as that of one which missed nothing: its number isn't below what was seen before
+is_from : (f : Facts) (p : Pinned) (v u : View) → v.seen.number ≤ u.seen.number → IsPin f p u → IsPin f p v
+is_from f (At g) v u l i = (i.0, (let h = i.1 in omega arith))
+is_from f Absent v u l i = omega arith
+is_from f Removed v u l i = omega arith
+
+pub pin_is : (f : Facts) (gs : List ℕ) (p : Pinned) (v : View) → LooksRise f gs p v → IsPin f p v
+pin_is f [] p v i = i
+pin_is f (g ∷ gs) p v i = let u = row.missed g (row.looked (g + 1) v) in
+    is_from f p v u i.1 (pin_is f gs p u i.2)
 
 -- what a pin leaves of a view
 pub tried_right : (f : Facts) (slot : Slot) (gs : List ℕ) (p : Pinned) (v : View)
@@ -74,7 +85,7 @@ pub pinned_at : {gs : List ℕ} {g : ℕ} {b c : Actor} → Goes (pin Work gs (A
     × (g < stages c.facts)
 pinned_at {gs = gs} {g = g} {b = b} x =
     subst (λ (z : Actor). (z.view.work ≡ g + 1) × (g < stages z.facts)) (sym x.becomes)
-    (tried_work b.facts gs (At g) b.view, x.fair.0)
+    (tried_work b.facts gs (At g) b.view, (pin_is b.facts gs (At g) b.view x.fair).0)
 
 -- the begin and the pin together
 pub entered : {p : Pinned} {a b c : Actor} → Goes (begin true) a b → ((gs : List ℕ) × Goes (pin Work gs p) b c)
@@ -89,5 +100,5 @@ entered {p = p} {a = a} {b = b} {c = c} x (gs, y) = record {
       ∙ (tried_hold b.facts gs p b.view ∙ ap (λ (z : Actor). z.view.hold) x.becomes);
   facts = ap (λ (z : Actor). z.facts) y.becomes ∙ ap (λ (z : Actor). z.facts) x.becomes;
   cut = ap (λ (z : Actor). z.cut) y.becomes ∙ ap (λ (z : Actor). z.cut) x.becomes;
-  range = subst (λ (z : Actor). IsPin z.facts p z.view) x.becomes y.fair;
+  range = subst (λ (z : Actor). IsPin z.facts p z.view) x.becomes (pin_is b.facts gs p b.view y.fair);
 }

@@ -20,7 +20,7 @@ use Rattle.mf_vault.specs.Actor as call
 use Rattle.mf_vault.specs.Answers.{IsFair, IsPin}
 use Rattle.mf_vault.specs.Licence.{number_of_pin}
 use Rattle.mf_vault.specs.Laws.{SeenGrows}
-use Rattle.mf_vault.proofs.Entering.{tried_number}
+use Rattle.mf_vault.proofs.Entering.{tried_number, pin_is}
 
 -- a change more in a Made
 published_on : (a : Answer) (n : ℕ) (m : Made) → makes a m ≤ makes a (record m { numbers = n ∷ m.numbers })
@@ -96,7 +96,7 @@ tried_made f slot [] Absent v = refl
 tried_made f slot [] Removed v = refl
 tried_made f slot (h ∷ gs) p v = tried_made f slot gs p (row.missed h (row.looked (h + 1) v))
 
-pin_low : (f : Facts) (p : Pinned) (v : View) → IsPin f p v → v.seen.number ≤ number_of_pin f p
+pub pin_low : (f : Facts) (p : Pinned) (v : View) → IsPin f p v → v.seen.number ≤ number_of_pin f p
 pin_low f (At g) v i = let z = i.1 in omega arith
 pin_low f Absent v i = omega arith
 pin_low f Removed v i = i
@@ -146,7 +146,7 @@ no_more v a = omega arith
 
 one : (c : Call) (a : Actor) → IsFair c a → Has a.view (seen a.facts c a.view)
 one (call.cut_off s) a i = same a.view a.view refl refl
-one (call.pin slot gs p) a i = pin_on a.facts slot gs p a.view i
+one (call.pin slot gs p) a i = pin_on a.facts slot gs p a.view (pin_is a.facts gs p a.view i)
 one (call.unpin Hold) a i = same a.view (row.unpinned Hold a.view) refl refl
 one (call.unpin Work) a i = same a.view (row.unpinned Work a.view) refl refl
 one (call.begin true) a i = same a.view (row.begun a.view) refl refl

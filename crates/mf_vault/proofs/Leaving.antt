@@ -105,6 +105,33 @@ pub quiet_append : (cs ds : List Call) → AreQuiet cs → AreQuiet ds → AreQu
 quiet_append [] ds p q = q
 quiet_append (c ∷ cs) ds p q = (p.0, quiet_append cs ds p.1 q)
 
+-- chunk operations that change no name but by its cell
+abbrev pub IsOp : Call → Type 0
+IsOp (probe x s) = Unit {0}
+IsOp (put x) = Unit {0}
+IsOp (restore x) = Unit {0}
+IsOp (get x o) = Unit {0}
+IsOp c = ⊥
+
+abbrev pub AreOps : List Call → Type 0
+AreOps [] = Unit {0}
+AreOps (c ∷ cs) = IsOp c × AreOps cs
+
+pub ops_then : (cs ds : List Call) → AreOps cs → AreOps ds → AreOps (cs ++ ds)
+ops_then [] ds h k = k
+ops_then (c ∷ cs) ds h k = (h.0, ops_then cs ds h.1 k)
+
+op_quiet : (c : Call) → IsOp c → IsQuiet c
+op_quiet (probe x s) op = tt
+op_quiet (put x) op = tt
+op_quiet (restore x) op = tt
+op_quiet (get x o) op = tt
+op_quiet c op = absurd op
+
+pub ops_quiet : (cs : List Call) → AreOps cs → AreQuiet cs
+ops_quiet [] ops = tt
+ops_quiet (c ∷ cs) ops = (op_quiet c ops.0, ops_quiet cs ops.1)
+
 -- ---- the begin and the pin of an engine
 
 -- the actor that has begun, and pinned the Work slot

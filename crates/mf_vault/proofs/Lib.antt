@@ -6,3 +6,6 @@ pub mod Counted
 pub mod Once
 pub mod Growing
 pub mod Gaining
+pub mod Looking
+pub mod Closing
+pub mod Engines

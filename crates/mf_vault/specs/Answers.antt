@@ -1,7 +1,7 @@
 -- What is promised of the answer of each call: of any actor, and of one that is alone.
-use Rattle.std.specs.Prelude.{◌≡◌, ℕ, ◌<◌, ◌≤◌, Bool, true, false, [], IfSome}
+use Rattle.std.specs.Prelude.{◌≡◌, ℕ, ◌<◌, ◌≤◌, Bool, true, false, List, [], ◌∷◌, IfSome}
 use Rattle.mf_machine.specs.declared.view.View.{View}
-use Rattle.mf_machine.specs.Actors.{PinHolds}
+use Rattle.mf_machine.specs.Actors.{PinHolds, live}
 use Rattle.mf_machine.specs.declared.answer.Closed.{Closed}
 use Rattle.mf_machine.specs.declared.answer.Closed.TheVariants as closed
 use Rattle.mf_machine.specs.declared.answer.LoseStep.{LoseStep}
@@ -46,6 +46,13 @@ IsPin f (At g) v = (g < stages f) × (v.seen.number ≤ number_of g)
 IsPin f Absent v = v.seen.number ≡ absent
 IsPin f Removed v = v.seen.number ≤ removed (file f)
 
+-- the published numbers that a pin looks at never fall, from what was seen to the one that it fell on; each that it
+-- missed is a stage's
+abbrev pub LooksRise : Facts → List ℕ → Pinned → View → Type 0
+LooksRise f [] p v = IsPin f p v
+LooksRise f (g ∷ missed) p v = (g < stages f) × (v.seen.number ≤ number_of g)
+    × LooksRise f missed p (step.missed g (step.looked (number_of g) v))
+
 -- Unborn never comes for a name of a pinned generation
 abbrev pub FairState : Actor → Name → State → Type 0
 FairState a x state.Unborn = IsReached a x × (PinHolds (file a.facts) a.view.hold a.view.work (number a.facts x) → ⊥)
@@ -60,14 +67,15 @@ FairGot a x (got.Lost l) = IsLostBy a x l
 FairGot a x (got.Away s) = IsAway a x s
 FairGot a x got.Memory = IsReached a x
 
-abbrev pub FairClose : Closed → Type 0
-FairClose closed.Done = Unit {0}
-FairClose (closed.Pins n) = 0 < n
-FairClose closed.Already = Unit {0}
+-- a generation is closed, or was, only where the actor has no pin on it; its own pins are among those that are met
+abbrev pub FairClose : ℕ → Closed → View → Type 0
+FairClose g closed.Done v = live g v ≡ 0
+FairClose g (closed.Pins n) v = (0 < n) × (live g v ≤ n)
+FairClose g closed.Already v = live g v ≡ 0
 
 abbrev pub IsFair : Call → Actor → Type 0
 IsFair (cut_off s) a = Unit {0}
-IsFair (pin slot gs p) a = IsPin a.facts p a.view
+IsFair (pin slot gs p) a = LooksRise a.facts gs p a.view
 IsFair (unpin slot) a = Unit {0}
 IsFair (begin b) a = Unit {0}
 IsFair end a = Unit {0}
@@ -75,7 +83,7 @@ IsFair (publish next) a = a.view.seen.number < next
 IsFair (probe x s) a = FairState a x s
 IsFair (put x) a = Unit {0}
 IsFair (restore x) a = Unit {0}
-IsFair (close g c) a = FairClose c
+IsFair (close g c) a = FairClose g c a.view
 IsFair (discard x b) a = Unit {0}
 IsFair (get x o) a = FairGot a x o
 IsFair (lose x l b) a = Unit {0}

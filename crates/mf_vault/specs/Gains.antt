@@ -1,6 +1,6 @@
 -- What calls add to their actor's Made and Met: just what their entries say, the numbers that were looked at and
 -- published, the begins, the pins, and a Here for each get that ended for want of memory.
-use Rattle.std.specs.Prelude.{◌≡◌, ℕ, ◌+◌, ◌==◌, true, false, List, [], ◌∷◌, cond}
+use Rattle.std.specs.Prelude.{◌≡◌, ℕ, ◌+◌, ◌≤◌, ◌==◌, true, false, List, [], ◌∷◌, ◌++◌, cond}
 use Rattle.mf_machine.specs.declared.answer.Closed.TheVariants as closed
 use Rattle.mf_machine.specs.declared.answer.Slot.TheVariants.{Work}
 use Rattle.mf_machine.specs.declared.view.Refusal.{Refusal}
@@ -67,6 +67,22 @@ pins_met g n (r ∷ rest) = cond (r.generation == g) (bit r.pins n) 0 + pins_met
 abbrev pub looked_at : Facts → (missed : List ℕ) → Pinned → List ℕ
 looked_at f [] p = number_of_pin f p ∷ []
 looked_at f (g ∷ missed) p = number_of g ∷ looked_at f missed p
+
+-- the published numbers that a call looks at, or publishes, in order
+abbrev pub looks : Facts → Call → List ℕ
+looks f (call.pin slot missed p) = looked_at f missed p
+looks f (call.publish next) = next ∷ []
+looks f c = []
+
+-- and those of all these calls
+abbrev pub looks_of : Facts → List Call → List ℕ
+looks_of f [] = []
+looks_of f (c ∷ calls) = looks f c ++ looks_of f calls
+
+-- no number is below the one before it, nor the first one below n
+abbrev pub NeverFalls : ℕ → List ℕ → Type 0
+NeverFalls n [] = Unit {0}
+NeverFalls n (x ∷ xs) = (n ≤ x) × NeverFalls x xs
 
 -- 1 where it pinned g
 abbrev pub opens : ℕ → Pinned → ℕ
@@ -141,3 +157,19 @@ abbrev pub LeaveWork : List Call → Type 0
 LeaveWork [] = Unit {0}
 LeaveWork (call.pin Work missed p ∷ calls) = ⊥
 LeaveWork (c ∷ calls) = LeaveWork calls
+
+-- ---- what an engine's calls add
+
+-- these calls published these numbers, and took the right and were refused it so often. Made grows by the entries and
+-- these numbers, and by nothing else. The own Met grows by the entries, and beside them by numbers looked at, these
+-- begins, and pins: by one on an open generation only where its number was looked at. The Work slot is free at each
+-- close
+pub record EngineGains (calls : List Call) (numbers : List ℕ) (rights refusals : ℕ) (a b : Actor) : Type 0 where
+  pub made : MadeGains a.facts calls a.view b.view
+  pub published : (n : ℕ) → times n b.view.made.numbers ≡ times n a.view.made.numbers + times n numbers
+  pub met : MetGains a.facts calls a.view b.view
+  pub begun : b.view.own.begun ≡ a.view.own.begun + rights
+  pub refused : b.view.own.refused ≡ a.view.own.refused + refusals
+  pub looked : (g : ℕ) → times g b.view.own.opened + times (number_of g) a.view.own.numbers
+      ≤ times g a.view.own.opened + times (number_of g) b.view.own.numbers
+  pub free : FreeAtCloses calls a

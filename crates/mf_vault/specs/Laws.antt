@@ -16,7 +16,7 @@ use Rattle.mf_vault.specs.declared.answers.Pinned.{Pinned}
 use Rattle.mf_vault.specs.Actor.{Actor, Call}
 use Rattle.mf_vault.specs.Actor as call
 use Rattle.mf_vault.specs.Answers.{Goes}
-use Rattle.mf_vault.specs.Gains.{MadeGains, MetGains, FreeAtCloses, LeaveWork}
+use Rattle.mf_vault.specs.Gains.{MadeGains, MetGains, FreeAtCloses, LeaveWork, NeverFalls, looks_of}
 use Rattle.mf_vault.specs.Licence.{Does, IsKept}
 use Rattle.mf_vault.specs.May.{MayBegin}
 
@@ -35,6 +35,11 @@ abbrev pub PinsAreLooked : Type 0
 PinsAreLooked = (calls : List Call) (a b : Actor) → Does calls a b → (g : ℕ)
     → times g b.view.own.opened + times (number_of g) a.view.own.numbers
     ≤ times g a.view.own.opened + times (number_of g) b.view.own.numbers
+
+-- the published numbers that an actor looks at or publishes never fall, from what it had seen on
+abbrev pub LooksNeverFall : Type 0
+LooksNeverFall = (calls : List Call) (a b : Actor) → Does calls a b
+    → NeverFalls a.view.seen.number (looks_of a.facts calls)
 
 -- calls that don't pin the Work slot leave it free at each close
 abbrev pub WorkStaysFree : Type 0

@@ -1,6 +1,6 @@
 //! What follows of the calls of any access.
-ghost use Rattle.mf_vault.specs.Laws.{EntriesTell, NeverRefused, OneAnswer, PinsAreLooked};
-ghost use Rattle.mf_vault.specs.Laws.{SeenGrows, WorkStaysFree};
+ghost use Rattle.mf_vault.specs.Laws.{EntriesTell, LooksNeverFall, NeverRefused, OneAnswer};
+ghost use Rattle.mf_vault.specs.Laws.{PinsAreLooked, SeenGrows, WorkStaysFree};
 
 /// What an actor has seen and made only grows.
 pub fn seen_only_grows()
@@ -22,6 +22,12 @@ pub fn entries_tell()
 /// A generation is pinned only where its number was looked at.
 pub fn pins_are_looked_at()
     ensures { PinsAreLooked }
+{}
+
+/// The published numbers that an actor looks at or publishes never fall, those of the pins that it
+/// missed included.
+pub fn looks_never_fall()
+    ensures { LooksNeverFall }
 {}
 
 /// Calls that don't pin the Work slot leave it free at each close.

@@ -18,8 +18,8 @@
 //! of the file machine, appends its entry and leaves all else, with what is promised of its answer;
 //! `count_io` counts each entry by its kind. Laws, over any access: what is seen only grows; what is
 //! made and met is just what the entries say, with the numbers, begins and pins beside them; a
-//! generation is pinned only where its number was looked at; an actor alone is never refused the
-//! right, and has one answer to a call, want of memory aside.
+//! generation is pinned only where its number was looked at; the numbers looked at never fall; an
+//! actor alone is never refused the right, and has one answer to a call, want of memory aside.
 #![tactic(auto)]
 
 mod access;
@@ -37,8 +37,8 @@ pub use created::birth;
 pub use fetch::Fetch;
 pub use io::{Io, count_io};
 pub use law::{
-    alone_has_one_answer, alone_is_never_refused, entries_tell, pins_are_looked_at,
-    seen_only_grows, work_stays_free,
+    alone_has_one_answer, alone_is_never_refused, entries_tell, looks_never_fall,
+    pins_are_looked_at, seen_only_grows, work_stays_free,
 };
 pub use ledger::{append, enter, enter_get};
 pub use mf_kernel::{Chunk, Memory};

@@ -1,6 +1,6 @@
 -- The steps of the loops over files and clients.
 use Rattle.std.proofs.Common.{◌≡◌, ℕ, zero, suc, ◌+◌, ◌-◌, ◌/◌, ◌<◌, ◌≤◌, List, [], ◌∷◌, ◌++◌, length, map, get_or, set}
-use Rattle.std.proofs.Common.{take, drop, All, Ok, Err, refl, sym, ap, ◌∙◌, subst, arith, append_assoc, inl, inr}
+use Rattle.std.proofs.Common.{take, drop, All, Ok, refl, sym, ap, ◌∙◌, subst, arith, append_assoc, inl, inr}
 use Rattle.std.proofs.lemmas.List.{length-map, length-take, length-drop, map-append, map-set, get_or_default}
 use Rattle.std.proofs.lemmas.List.{get_or-drop}
 use Rattle.std.proofs.lemmas.Bool.{cases_lt}
@@ -29,7 +29,7 @@ use Rattle.mf_crew.specs.Parts.{AreOf, AreNew, AreSeatsOf, IsSeatOf, AreAllOf, N
 use Rattle.mf_crew.specs.Parts.{AreJobs, IsJob, actors_in, facts_of_all, views_in}
 use Rattle.mf_crew.proofs.Zips.{zip_at, zip_length, zip_push, zip_set}
 use Rattle.mf_crew.proofs.Sharing.{halved}
-use Rattle.mf_crew.proofs.Joining.{join_push, join_length}
+use Rattle.mf_crew.proofs.Joining.{join_push}
 
 -- ---- the seats of accesses
 

@@ -1,17 +1,14 @@
 -- From what came of all clients to the phase.
 use Rattle.std.proofs.Common.{◌≡◌, ℕ, zero, suc, ◌+◌, ◌<◌, ◌≤◌, Bool, true, false, List, [], ◌∷◌, ◌++◌, length, map}
 use Rattle.std.proofs.Common.{get_or}
-use Rattle.std.proofs.Common.{drop, take, Option, Some, All, IfOk, Ok, Err, refl, sym, ap, ◌∙◌, subst, arith, cond}
+use Rattle.std.proofs.Common.{drop, take, Some, All, IfOk, Ok, Err, refl, sym, ap, ◌∙◌, subst, arith, cond}
 use Rattle.std.specs.Prelude.{flat_map, slice_get}
-use Rattle.std.specs.List.{AllZip}
 use Rattle.std.proofs.lemmas.List.{length-map, take_all}
-use Rattle.std.proofs.lemmas.List.Elements.{All-nil, All-cons, All-append, All-map, All-from_get_or}
-use Rattle.std.proofs.lemmas.Option.{slice_get-map}
+use Rattle.std.proofs.lemmas.List.Elements.{All-nil, All-cons, All-append}
 use Rattle.std.proofs.Math.ListN.{get_or-map}
 use Rattle.mf_machine.specs.declared.view.View.{View}
 use Rattle.mf_machine.specs.Steps.{joined}
 use Rattle.mf_machine.specs.Words.{whole_share}
-use Rattle.mf_places.specs.Facts.{BookFacts}
 use Rattle.mf_places.specs.declared.losses.LoseLine.{LoseLine}
 use Rattle.mf_lines.specs.declared.parts.FileLine.{FileLine}
 use Rattle.mf_lines.specs.Meaning.{Script}
@@ -24,26 +21,25 @@ use Rattle.mf_plain.specs.Alone.{first_actor}
 use Rattle.mf_shared.specs.declared.seat.Seat.{Seat}
 use Rattle.mf_shared.specs.declared.shared.Shared.{Shared}
 use Rattle.mf_shared.specs.Left.{LeftBy}
-use Rattle.mf_shared.specs.Seats.{IsOf, let_go, view_of}
-use Rattle.mf_shared.specs.Shared.{facts_in as facts_at}
+use Rattle.mf_shared.specs.Seats.{let_go, view_of}
 use Rattle.mf_client.specs.declared.done.Done.{Done}
-use Rattle.mf_client.specs.Clients.{HasClient, AreFiles, IsFileOf, facts_in}
+use Rattle.mf_client.specs.Clients.{AreFiles, IsFileOf, facts_in}
 use Rattle.mf_script.specs.Phases.{clients_of}
 use Rattle.mf_client.specs.Runs.{IsSmall}
 use Rattle.mf_crew.specs.declared.jobs.Job.{Job}
 use Rattle.mf_crew.specs.declared.jobs.Report.{Report}
 use Rattle.mf_crew.specs.Alone.{first_actors}
-use Rattle.mf_crew.specs.Files.{HasPhase, RestsBy, AllRestBy}
+use Rattle.mf_crew.specs.Files.{HasPhase, AllRestBy}
 use Rattle.mf_crew.specs.Live.{Ran, AllRan, RunsLive, AreLeft, share_of, new_view, new_actor, untabled, views_of}
 use Rattle.mf_crew.specs.Live.{join_each, join_all}
-use Rattle.mf_crew.specs.Parts.{AreOf, AreNew, AreSeatsOf, IsSeatOf, IsReport, AreAllOf, NoneFailed, Came, done_in}
+use Rattle.mf_crew.specs.Parts.{AreOf, AreSeatsOf, IsSeatOf, IsReport, AreAllOf, NoneFailed, Came, done_in}
 use Rattle.mf_crew.specs.Parts.{take_in}
 use Rattle.mf_crew.specs.Parts.{AreJobs, IsRunnable, actors_in, facts_of_all, views_in}
 use Rattle.mf_crew.proofs.Zips.{zip_length, zip_map}
 use Rattle.mf_crew.proofs.Sharing.{halved}
 use Rattle.mf_crew.proofs.Joining.{share_let_go, join_let_go, join_length, join_each-all}
 use Rattle.mf_crew.proofs.Staying.{shares, runs_shares}
-use Rattle.mf_crew.proofs.Phased.{Mapped, mapped, map_at, finds_files}
+use Rattle.mf_crew.proofs.Phased.{mapped, map_at, finds_files}
 
 -- ---- the seats of one client
 
@@ -341,6 +337,9 @@ pub live_ran : (s : Script) (phase now : ℕ) (before after : List Resting) (fil
 live_ran s phase now before after files n views rs done clients many finds long none are joins is left =
     let all = collect s phase 0 files (map (new_view (share_of n)) files) rs none are in
     let count : length all.runs ≡ n = all.count ∙ long in
+    let behind = subst (λ (l : List View). AreLeft files l after)
+    (joins ∙ all.views_are ∙ ap (λ (k : ℕ). join_all (map (new_view (share_of k)) files) all.runs) (sym count))
+    left in
     let one : 0 + 1 ≡ 1 = omega arith in (
       record {
         many = subst (λ (k : ℕ). 1 < k) clients many;
@@ -350,9 +349,7 @@ live_ran s phase now before after files n views rs done clients many finds long 
         count = count ∙ clients;
         ran = subst (λ (k : ℕ). AllRan s phase k files all.runs) one all.ran;
         in_order = is ∙ all.done;
-        left = subst (λ (l : List View). AreLeft files l after)
-            (joins ∙ all.views_are ∙ ap (λ (k : ℕ). join_all (map (new_view (share_of k)) files) all.runs) (sym count))
-            left;
+        left = behind;
       },
       subst (All (λ (d : Done). IsSmall d.io)) (sym is) all.small,
     )

@@ -5,3 +5,9 @@ pub mod Joining
 pub mod Staying
 pub mod Gathering
 pub mod Dealing
+pub mod Counting
+pub mod Telling
+pub mod Tracing
+pub mod Following
+pub mod Columns
+pub mod Lawful

@@ -1,5 +1,5 @@
 -- What a phase finds, and what it leaves.
-use Rattle.std.proofs.Common.{◌≡◌, ℕ, zero, suc, ◌-◌, ◌<◌, ◌≤◌, Bool, true, false, List, [], ◌∷◌, ◌++◌, length, map}
+use Rattle.std.proofs.Common.{◌≡◌, ℕ, ◌≤◌, Bool, true, false, List, [], ◌∷◌, ◌++◌, length, map}
 use Rattle.std.proofs.Common.{take, get_or}
 use Rattle.std.proofs.Common.{Option, Some, None, All, refl, sym, ap, ◌∙◌, subst, arith, cond}
 use Rattle.std.specs.Prelude.{slice_get}
@@ -12,16 +12,13 @@ use Rattle.mf_machine.specs.Worlds.{World}
 use Rattle.mf_places.specs.Facts.{BookFacts}
 use Rattle.mf_lines.specs.declared.parts.Content.TheVariants as given
 use Rattle.mf_lines.specs.declared.parts.FileLine.{FileLine}
-use Rattle.mf_lines.specs.declared.parts.Item.{Item}
-use Rattle.mf_lines.specs.declared.parts.Item.TheVariants as item
-use Rattle.mf_lines.specs.Meaning.{Script, phases_in}
+use Rattle.mf_lines.specs.Meaning.{Script}
 use Rattle.mf_script.specs.Losses.{losses_of}
 use Rattle.mf_script.specs.Phases.{clients_of}
-use Rattle.mf_script.specs.Scripts.{IsScript}
 use Rattle.mf_vault.specs.Facts.{Facts}
 use Rattle.mf_vault.specs.Actor.{Actor}
 use Rattle.mf_vault.specs.Conditions.{IsIdle}
-use Rattle.mf_plain.specs.Resting.{Resting, facts_of, unborn}
+use Rattle.mf_plain.specs.Resting.{Resting, AtRest, facts_of, unborn}
 use Rattle.mf_plain.specs.declared.access.PlainAccess.{PlainAccess}
 use Rattle.mf_plain.specs.Alone.{first_actor, rested}
 use Rattle.mf_plain.specs.Whole.{actor_of}
@@ -174,14 +171,15 @@ only_client s p has one = record { phases = has; clients = (omega arith, omega (
 -- a phase that was run
 pub phase_ran : (s : Script) (p now : ℕ) (files new : List Resting) (done : List Done) (was actors : List Actor)
     → length (clients_of s p) ≡ 1 → AllRestBy s p now files → was ≡ first_actors s p now files
-    → Runs s p 1 was done actors → facts_in actors ≡ facts_in was → map left_by actors ≡ map Some new
+    → Runs s p 1 was done actors → facts_in actors ≡ facts_in was → map left_by actors ≡ map Some new → All AtRest new
     → RunsPhase s p now files done new × AllRestBy s p now new
-phase_ran s p now files new done was actors one are first runs facts rest = (
+phase_ran s p now files new done was actors one are first runs facts rest at_rest = (
   record {
     one = one;
     actors = actors;
     runs = subst (λ as0. Runs s p 1 as0 done actors) first runs;
     rest = rest;
+    at_rest = at_rest;
   },
   leaves s p now files new actors are (facts ∙ ap facts_in first) rest,
 )

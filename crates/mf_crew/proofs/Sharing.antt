@@ -1,7 +1,6 @@
 -- The shares of the clients of a phase.
-use Rattle.std.proofs.Common.{◌≡◌, ℕ, zero, suc, ◌+◌, ◌-◌, ◌*◌, ◌/◌, ◌^◌, ◌<◌, ◌≤◌, subst, arith}
+use Rattle.std.proofs.Common.{◌≡◌, ℕ, zero, suc, ◌+◌, ◌-◌, ◌*◌, ◌^◌, ◌<◌, ◌≤◌, subst, arith}
 use Rattle.std.proofs.Math.Nat.{pow-succ'}
-use Rattle.mf_machine.specs.Words.{whole_share}
 use Rattle.mf_crew.specs.Live.{share_of}
 
 positive : (n : ℕ) → 1 ≤ 2 ^ n

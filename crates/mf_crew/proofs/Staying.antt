@@ -1,6 +1,6 @@
 -- No call of an access changes its actor's share.
-use Rattle.std.proofs.Common.{◌≡◌, ℕ, ◌+◌, Bool, true, false, List, [], ◌∷◌, map, Option, Some, None, refl, sym, ap}
-use Rattle.std.proofs.Common.{◌∙◌, arith}
+use Rattle.std.proofs.Common.{◌≡◌, ℕ, ◌+◌, true, false, List, [], ◌∷◌, map, Option, Some, None, refl, sym, ap}
+use Rattle.std.proofs.Common.{◌∙◌}
 use Rattle.std.proofs.lemmas.Option.{get_or_from_slice_get}
 use Rattle.std.proofs.Math.Seq.{map-set_same}
 use Rattle.mf_machine.specs.declared.answer.Closed.TheVariants as closing
@@ -143,11 +143,11 @@ shares_by None policy line (act.Lose server) o parts before after h = lost_share
 shares_by None policy line act.Sweep o parts before after h = sweep_shares policy o parts before after h
 shares_by None policy line other o parts before after h = absurd h
 
-acts_shares : (policy : Option (List ℕ)) (line : ℕ) (x : Act) (o : Outcome) (parts : List Part)
+pub acts_shares : (policy : Option (List ℕ)) (line : ℕ) (x : Act) (o : Outcome) (parts : List Part)
     (before after : List Actor) → Acts policy line x o parts before after → shares after ≡ shares before
 acts_shares policy line x o parts before after h = shares_by (file_in x) policy line x o parts before after h
 
-cut_shares : (away : Servers) (before : List Actor) → shares (cut_all away before) ≡ shares before
+pub cut_shares : (away : Servers) (before : List Actor) → shares (cut_all away before) ≡ shares before
 cut_shares away [] = refl
 cut_shares away (a ∷ before) = ap (λ l. a.view.share ∷ l) (cut_shares away before)
 

@@ -1,5 +1,5 @@
 -- Two lists whose elements stand in a relation, place by place.
-use Rattle.std.proofs.Common.{◌≡◌, ℕ, zero, suc, ◌+◌, ◌<◌, List, [], ◌∷◌, ◌++◌, length, map, get_or, set, refl, ap}
+use Rattle.std.proofs.Common.{◌≡◌, ℕ, zero, suc, ◌<◌, List, [], ◌∷◌, ◌++◌, length, map, get_or, set, refl, ap}
 use Rattle.std.proofs.Common.{arith}
 use Rattle.std.specs.List.{AllZip}
 

@@ -1,9 +1,9 @@
 -- A phase of one client.
-use Rattle.std.specs.Prelude.{◌≡◌, ℕ, List, length, map, Some}
+use Rattle.std.specs.Prelude.{◌≡◌, ℕ, List, length, map, All, Some}
 use Rattle.mf_lines.specs.Meaning.{Script}
 use Rattle.mf_script.specs.Losses.{losses_of}
 use Rattle.mf_vault.specs.Actor.{Actor}
-use Rattle.mf_plain.specs.Resting.{Resting}
+use Rattle.mf_plain.specs.Resting.{Resting, AtRest}
 use Rattle.mf_plain.specs.Alone.{first_actor}
 use Rattle.mf_client.specs.declared.done.Done.{Done}
 use Rattle.mf_script.specs.Phases.{clients_of}
@@ -22,3 +22,4 @@ pub record RunsPhase (s : Script) (phase now : ℕ) (before : List Resting) (don
   pub actors : List Actor
   pub runs : Runs s phase 1 (first_actors s phase now before) done actors
   pub rest : map left_by actors ≡ map Some after
+  pub at_rest : All AtRest after

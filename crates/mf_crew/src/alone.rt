@@ -10,7 +10,7 @@ ghost use Rattle.mf_plain.specs.Whole.{actor_of};
 ghost use Rattle.mf_crew.specs.Files.{HasPhase, AllRestBy, left_by};
 ghost use Rattle.mf_crew.specs.Alone.{RunsPhase};
 
-use crate::phase::PhaseRun;
+use crate::phase::{PhaseRun, are_at_rest};
 use mf_client::{Turnstile, run_client};
 use mf_places::Losses;
 use mf_plain::{Plain, PlainAccess};
@@ -38,6 +38,7 @@ pub fn run_alone<T: Turnstile>(
     let mut accesses = accesses_of(alloc, files, now, &losses)?;
     let done = run_client(alloc, &mut accesses, script, phase, 1, turnstile)?;
     let files = rest_of(alloc, accesses)?;
+    are_at_rest(&files);
     Ok(PhaseRun { files, done })
 }
 

@@ -26,7 +26,9 @@
 
 mod alone;
 mod jobs;
+mod laws;
 mod live;
 mod phase;
 
-pub use phase::{PhaseRun, run_phase};
+pub use laws::{clients_tell, files_rest};
+pub use phase::{PhaseRun, are_at_rest, run_phase};

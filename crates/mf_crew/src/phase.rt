@@ -3,6 +3,7 @@
 ghost use Rattle.std.specs.Prelude.{◌≡◌, ◌≤◌, length, All, IfOk};
 ghost use Rattle.mf_client.specs.declared.done.Done.{Done};
 ghost use Rattle.mf_client.specs.Runs.{IsSmall};
+ghost use Rattle.mf_plain.specs.Resting.{AtRest};
 ghost use Rattle.mf_script.specs.Phases.{clients_of};
 ghost use Rattle.mf_crew.specs.Files.{HasPhase, AllRestBy};
 ghost use Rattle.mf_crew.specs.Live.{IsPhase};
@@ -50,6 +51,15 @@ pub fn run_phase<R: Threads + Wait + Sync, T: Turnstile>(
         return Ok(run_alone(alloc, files, script, phase, now, turnstile)?);
     }
     Ok(run_live(rt, alloc, files, script, phase, now, turnstile)?)
+}
+
+/// Files keep that they are at rest.
+pub fn are_at_rest(files: &[Plain])
+    ensures { All AtRest files.now }
+{
+    for plain in files {
+        plain.is_at_rest();
+    }
 }
 
 // How many clients a phase has.

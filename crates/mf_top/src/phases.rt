@@ -4,13 +4,12 @@ ghost use Rattle.std.specs.Prelude.{◌≡◌, ◌≤◌, ◌++◌, ◌∷◌, [
 ghost use Rattle.std.specs.Prelude.{All, IfOk, OnOk, Some};
 ghost use Rattle.mf_client.specs.declared.done.Done.{Done};
 ghost use Rattle.mf_lines.specs.Meaning.{phases_in};
-ghost use Rattle.mf_plain.specs.Resting.{AtRest};
 ghost use Rattle.mf_client.specs.Runs.{IsSmall};
 ghost use Rattle.mf_top.specs.ScriptRun.{new_file, new_files, AreOfLines, IsScriptRun};
 ghost use Rattle.mf_top.specs.Between.{IsOfText};
 
 use mf_client::{Done, Turnstile};
-use mf_crew::{PhaseRun, run_phase};
+use mf_crew::{PhaseRun, are_at_rest, run_phase};
 use mf_places::Book;
 use mf_plain::Plain;
 use mf_script::{FileLine, Item, Script, content_bytes};
@@ -42,15 +41,6 @@ pub fn run<R: Threads + Wait + Sync, T: Turnstile>(
     }
     are_at_rest(&files);
     Ok(PhaseRun { files, done })
-}
-
-// Files keep that they are at rest.
-fn are_at_rest(files: &[Plain])
-    ensures { All AtRest files.now }
-{
-    for plain in files {
-        plain.is_at_rest();
-    }
 }
 
 // How many phases a script has.

@@ -3,7 +3,7 @@ use Rattle.mf_places.specs.declared.losses.LoseLine.{LoseLine}
 use Rattle.mf_vault.specs.Actor.{Actor}
 use Rattle.mf_vault.specs.Conditions.{IsIdle}
 use Rattle.mf_plain.specs.Alone.{first_actor}
-use Rattle.mf_plain.specs.Resting.{Resting}
+use Rattle.mf_plain.specs.Resting.{Resting, AtRest}
 use Rattle.mf_plain.specs.Whole.{actor_of}
 use Rattle.mf_client.specs.Clients.{AreFiles, facts_in}
 use Rattle.mf_crew.specs.Alone.{first_actors}
@@ -56,7 +56,8 @@ returns-clause-runs g c =
     c.in_ok-done.ensures.facts) c.in_ok-files.ensures in
     (phase_ran s c.args.phase c.args.now files c.in_ok-files.files.items c.in_ok-done.done.items
     (map actor_of c.deref_mut.result.now) (map actor_of c.run_client.new.accesses) c.requires.one c.requires.rest first
-    c.in_ok-done.ensures.runs c.in_ok-done.ensures.facts rest).0
+    c.in_ok-done.ensures.runs c.in_ok-done.ensures.facts rest
+    (subst (All AtRest) c.deref.ensures.value c.are_at_rest.ensures)).0
 
 pub returns-clause-rest : goal.returns-clause-rest
 returns-clause-rest g c =
@@ -70,4 +71,5 @@ returns-clause-rest g c =
     c.in_ok-done.ensures.facts) c.in_ok-files.ensures in
     (phase_ran s c.args.phase c.args.now files c.in_ok-files.files.items c.in_ok-done.done.items
     (map actor_of c.deref_mut.result.now) (map actor_of c.run_client.new.accesses) c.requires.one c.requires.rest first
-    c.in_ok-done.ensures.runs c.in_ok-done.ensures.facts rest).1
+    c.in_ok-done.ensures.runs c.in_ok-done.ensures.facts rest
+    (subst (All AtRest) c.deref.ensures.value c.are_at_rest.ensures)).1

@@ -1,4 +1,4 @@
-use Rattle.std.proofs.Common.{◌≡◌, ◌+◌, refl}
+use Rattle.std.proofs.Common.{◌+◌, refl}
 use Rattle.mf_crew.proofs.Dealing.{deals_none, deals_more}
 use Rattle.mf_crew.proofs.live.deal.Goals as goal
 

@@ -1,6 +1,5 @@
-use Rattle.std.proofs.Common.{rules, ◌≡◌, ℕ, List, [], ◌∷◌, length, ap, ◌∙◌, arith}
-use Rattle.mf_crew.specs.Parts.{Came}
-use Rattle.mf_crew.proofs.Dealing.{gathers_all, gathers_next, gathers_more, gathers_end, Gathered}
+use Rattle.std.proofs.Common.{rules, ◌∷◌, ap, ◌∙◌}
+use Rattle.mf_crew.proofs.Dealing.{gathers_all, gathers_next, gathers_more}
 use Rattle.mf_crew.proofs.live.gather.Goals as goal
 
 pub loop-report-init : goal.loop-report-init

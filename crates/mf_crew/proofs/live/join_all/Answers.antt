@@ -1,4 +1,4 @@
-use Rattle.std.proofs.Common.{rules, ◌≡◌, ◌<◌, length, Fits, arith}
+use Rattle.std.proofs.Common.{rules, ◌<◌, length, arith}
 use Rattle.mf_shared.specs.Seats.{IsOf}
 use Rattle.mf_crew.proofs.Zips.{zip_length}
 use Rattle.mf_crew.proofs.Dealing.{split_of, joins_none, join_next, join_more}

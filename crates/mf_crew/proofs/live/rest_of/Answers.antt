@@ -1,4 +1,4 @@
-use Rattle.std.proofs.Common.{rules, ◌≡◌, ℕ, length, arith, ⊎_elim}
+use Rattle.std.proofs.Common.{rules, arith, ⊎_elim}
 use Rattle.mf_shared.specs.Seats.{IsOf}
 use Rattle.mf_crew.proofs.Zips.{zip_length}
 use Rattle.mf_crew.proofs.Dealing.{rests_all, rests_of, rests_last, rests_more, rests_end}

@@ -1,4 +1,4 @@
-use Rattle.std.proofs.Common.{◌∷◌, [], ◌≤◌, length, map, ap, ◌∙◌, arith}
+use Rattle.std.proofs.Common.{◌∷◌, [], map, ap, ◌∙◌, arith}
 use Rattle.std.proofs.lemmas.List.{map-append}
 use Rattle.mf_shared.specs.Whole.{told_by}
 use Rattle.mf_crew.proofs.Dealing.{split_of, split_share, split_more, splits_views, splits_actors}

@@ -2,7 +2,7 @@ use Rattle.std.proofs.Common.{All, subst, arith}
 use Rattle.std.proofs.lemmas.List.{take_all}
 use Rattle.std.proofs.lemmas.List.Elements.{All-more}
 use Rattle.mf_plain.specs.Resting.{AtRest}
-use Rattle.mf_top.proofs.phases.are_at_rest.Goals as goal
+use Rattle.mf_crew.proofs.phase.are_at_rest.Goals as goal
 
 pub loop-plain-preserved : goal.loop-plain-preserved
 loop-plain-preserved c =

@@ -18,7 +18,7 @@ use Rattle.mf_lines.specs.declared.parts.Command.{Command}
 use Rattle.mf_lines.specs.declared.parts.FileLine.{FileLine}
 use Rattle.mf_lines.specs.Meaning.{Script, file_in}
 use Rattle.mf_script.specs.Losses.{losses_of}
-use Rattle.mf_script.specs.Scripts.{IsScript}
+use Rattle.mf_script.specs.Sound.{IsSound}
 use Rattle.mf_vault.specs.declared.answers.Entry.{Entry}
 use Rattle.mf_vault.specs.declared.io.Io.{Io}
 use Rattle.mf_vault.specs.Facts.{Facts, lines}
@@ -354,11 +354,11 @@ losses_same s phase xs files k d low = by_line s.files refl
         (files.each k (get_or s.files k l) (get_or xs k d)
         (slice_get-get_or s.files k l (let m = files.count in omega arith)) (slice_get-get_or xs k d low)).losses
 
-pub finds_there : (text : List ℕ) (s : Script) (phase client i : ℕ) (start now : List Actor) (d : Command)
-    → IsScript text s → HasClient s phase client → AreFiles s phase (facts_in start) → All IsKept now → All IsIdle now
+pub finds_there : (s : Script) (phase client i : ℕ) (start now : List Actor) (d : Command)
+    → IsSound s → HasClient s phase client → AreFiles s phase (facts_in start) → All IsKept now → All IsIdle now
     → facts_in now ≡ facts_in start → i < length (commands_of s phase client)
     → Finds s (get_or (commands_of s phase client) i d) now
-finds_there text s phase client i start now d is has files kept idle same low =
+finds_there s phase client i start now d is has files kept idle same low =
     let here = subst (AreFiles s phase) (sym same) files in
     let c = get_or (commands_of s phase client) i d in
     record {
@@ -367,20 +367,20 @@ finds_there text s phase client i start now d is has files kept idle same low =
       idle = idle;
       few = few_files now s phase kept here;
       file = λ n e. subst (λ (o : Option ℕ). IfSome o (λ file. file < length s.files)) e
-          (command_knows text s phase client i d is low).0;
-      policy = λ e. has_policy text s is
-          (subst (IsPolicied s.policy) e (command_knows text s phase client i d is low).1);
+          (command_knows s phase client i d is low).0;
+      policy = λ e. has_policy s is
+          (subst (IsPolicied s.policy) e (command_knows s phase client i d is low).1);
       lines = λ server e. lines_all c.line server (losses_of s phase) (facts_in now)
           (losses_same s phase (facts_in now) here) (lose_listed s phase client i server d has low e);
     }
 
-pub few_policy : (text : List ℕ) (s : Script) → IsScript text s → IsFewPolicy s.policy
-few_policy text s is = by_policy s.policy refl
+pub few_policy : (s : Script) → IsSound s → IsFewPolicy s.policy
+few_policy s is = by_policy s.policy refl
   where
     by_policy : (policy : Option (List ℕ)) → s.policy ≡ policy → IsFewPolicy policy
     by_policy None e = tt
     by_policy (Some thresholds) e =
-        let has = has_policy text s is (ap is_some e) in
+        let has = has_policy s is (ap is_some e) in
         let few = has.few in
         let same : thresholds ≡ has.thresholds = let z : Some thresholds ≡ Some has.thresholds = sym e ∙ has.is in cc in
         let long = ap length same in omega arith

@@ -19,10 +19,11 @@ use Rattle.mf_lines.specs.Meaning.{client_with, with_command, with_form, no_bloc
 use Rattle.mf_lines.specs.Meaning.{so_with, so_of}
 use Rattle.mf_lines.specs.Lines.{may_follow, may_follow_command}
 use Rattle.mf_lines.proofs.ListLemmas.{on_last-push}
-use Rattle.mf_lines.proofs.FormLemmas.{LineIs, line_is}
-use Rattle.mf_script.specs.Texts.{MakeForms, HasForms}
+use Rattle.mf_lines.proofs.FormLemmas.{LineIs}
+use Rattle.mf_script.specs.Texts.{HasForms}
 use Rattle.mf_script.specs.Printing.{command_form, client_forms, item_forms, block_forms, policy_forms, store_forms}
 use Rattle.mf_script.specs.Printing.{script_forms}
+use Rattle.mf_script.proofs.Along.{along_text}
 use Rattle.mf_script.proofs.Lists.{flat_push}
 
 -- ---- one more at the end
@@ -363,23 +364,13 @@ built_line so line form before is h =
           (subst (λ l. Built l so.script before) was h)
     ]
 
-built_lines : (so : SoFar) (lines : List (List ℕ)) (forms before : List Form) → MakeForms so lines forms
-    → Built so.last so.script before → Built (so_with so forms).last (so_with so forms).script (before ++ forms)
-built_lines so [] [] before made h = subst (Built so.last so.script) (sym (append-nil before)) h
-built_lines so [] (form ∷ forms) before made h = absurd made
-built_lines so (line ∷ lines) [] before made h = absurd made
-built_lines so (line ∷ lines) (form ∷ forms) before made h =
-    subst (Built (so_with (with_line so form) forms).last (so_with (with_line so form) forms).script)
-    (append_assoc before (form ∷ []) forms)
-    (built_lines (with_line so form) lines forms (before ++ form ∷ []) made.1
-    (built_line so line form before (line_is so line form made.0) h))
-
 -- a script that was read has the forms that it was read from
 pub forms_are : (text : List ℕ) (forms : List Form) → HasForms text forms → script_forms (so_of forms).script ≡ forms
 unfolding Built whole body filed script_forms so_of
 forms_are text forms has =
     sym (subst (λ l. Built l (so_of forms).script forms) has.ended
-    (built_lines so_before _ forms [] has.lines (
+    (along_text (λ done before so. Built so.last so.script before)
+    (λ done before so line form is h. built_line so line form before is h) text forms has (
       refl,
       record {
         families = refl;

@@ -2,7 +2,9 @@
 use Rattle.std.proofs.Common.{◌≡◌, ℕ, zero, suc, ◌+◌, ◌-◌, ◌<◌, ◌≤◌, true, List, [], ◌∷◌, ◌++◌, length, get_or, Option}
 use Rattle.std.proofs.Common.{Some}
 use Rattle.std.proofs.Common.{None, refl, sym, ap, ◌∙◌, subst, arith, inl, inr}
+use Rattle.std.specs.List.{All}
 use Rattle.std.proofs.lemmas.List.{length-append, append-nil}
+use Rattle.std.proofs.lemmas.List.Elements.{All-nil, All-cons}
 use Rattle.mf_lines.specs.declared.parts.Command.{Command}
 use Rattle.mf_lines.specs.declared.parts.Client.{Client}
 use Rattle.mf_lines.specs.declared.parts.Item.{Item}
@@ -13,25 +15,26 @@ use Rattle.mf_lines.specs.declared.forms.Form.{Form}
 use Rattle.mf_lines.specs.declared.forms.Form.TheVariants as says
 use Rattle.mf_lines.specs.Meaning.{Script, SoFar, first_word, on_last, with_client, client_with, with_command}
 use Rattle.mf_lines.specs.Meaning.{with_form}
-use Rattle.mf_lines.specs.Meaning.{phases_in, clients_with, so_before, with_line, so_with, so_of}
+use Rattle.mf_lines.specs.Meaning.{phases_in, clients_with}
 use Rattle.mf_lines.specs.Lines.{may_follow, may_follow_command}
 use Rattle.mf_lines.proofs.ListLemmas.{on_last-push}
 use Rattle.mf_lines.specs.Keeps.{Keeps}
-use Rattle.mf_lines.proofs.FormLemmas.{LineIs, line_is}
-use Rattle.mf_script.specs.Texts.{MakeForms}
-use Rattle.mf_script.specs.Scripts.{IsScript}
-use Rattle.mf_script.specs.Phases.{clients_of}
+use Rattle.mf_lines.proofs.FormLemmas.{LineIs}
 
 -- ---- how many clients phases have
 
+-- one to eight clients
+abbrev pub AreFew : List Client → Type 0
+AreFew clients = (1 ≤ length clients) × (length clients ≤ 8)
+
 -- the last one so many, and each before it one to eight
-abbrev Sized : ℕ → List (List Client) → Type 0
+abbrev pub Sized : ℕ → List (List Client) → Type 0
 Sized k [] = Unit {0}
 Sized k (cs ∷ []) = length cs ≡ k
 Sized k (cs ∷ ds ∷ phases) = ((1 ≤ length cs) × (length cs ≤ 8)) × Sized k (ds ∷ phases)
 
 -- the last one, if there is one, has one to eight
-abbrev Full : ℕ → List (List Client) → Type 0
+abbrev pub Full : ℕ → List (List Client) → Type 0
 Full k [] = Unit {0}
 Full k (cs ∷ phases) = (1 ≤ k) × (k ≤ 8)
 
@@ -55,13 +58,13 @@ last_size k [] cs sized = sized
 last_size k (p ∷ []) cs sized = sized.1
 last_size k (p ∷ q ∷ phases) cs sized = last_size k (q ∷ phases) cs sized.1
 
-size_at : (k : ℕ) (phases : List (List Client)) (i : ℕ) → Sized k phases → Full k phases → i < length phases
-    → (1 ≤ length (get_or phases i [])) × (length (get_or phases i []) ≤ 8)
-size_at k [] i sized some low = absurd (omega (arith, low))
-size_at k (cs ∷ []) zero sized some low = (omega (arith, sized, some.0), omega (arith, sized, some.1))
-size_at k (cs ∷ []) (suc i) sized some low = absurd (omega (arith, low))
-size_at k (cs ∷ ds ∷ phases) zero sized some low = sized.0
-size_at k (cs ∷ ds ∷ phases) (suc i) sized some low = size_at k (ds ∷ phases) i sized.1 some (omega (arith, low))
+-- so each phase has one to eight
+pub all_few : (k : ℕ) (phases : List (List Client)) → Sized k phases → Full k phases → All AreFew phases
+all_few k [] sized some = All-nil AreFew
+all_few k (cs ∷ []) sized some =
+    All-cons AreFew cs [] (omega (arith, sized, some.0), omega (arith, sized, some.1)) (All-nil AreFew)
+all_few k (cs ∷ ds ∷ phases) sized some =
+    All-cons AreFew cs (ds ∷ phases) sized.0 (all_few k (ds ∷ phases) sized.1 some)
 
 -- ---- the items, by the last line
 
@@ -71,13 +74,13 @@ phases_push (item.Tick ticks ∷ items) x = phases_push items x
 phases_push (item.Phase clients ∷ items) x = ap (λ r. clients ∷ r) (phases_push items x)
 
 -- the last item is a phase
-record HasPhase (items : List Item) : Type 0 where
-  before : List Item
-  clients : List Client
-  is : items ≡ before ++ item.Phase clients ∷ []
+pub record HasPhase (items : List Item) : Type 0 where
+  pub before : List Item
+  pub clients : List Client
+  pub is : items ≡ before ++ item.Phase clients ∷ []
 
 -- k clients since the last phase line
-Stands : Option LineWord → ℕ → List Item → Type 0
+abbrev pub Stands : Option LineWord → ℕ → List Item → Type 0
 Stands (Some word.Phase) k items = HasPhase items × Sized k (phases_in items)
 Stands (Some word.Client) k items = HasPhase items × Sized k (phases_in items) × ((1 ≤ k) × (k ≤ 8))
 Stands (Some (word.Command verb)) k items = HasPhase items × Sized k (phases_in items) × ((1 ≤ k) × (k ≤ 8))
@@ -85,7 +88,6 @@ Stands last k items = Sized k (phases_in items) × Full k (phases_in items)
 
 add_phase : (items : List Item) (k : ℕ) → Sized k (phases_in items) → Full k (phases_in items)
     → Stands (Some word.Phase) 0 (items ++ item.Phase [] ∷ [])
-unfolding Stands
 add_phase items k sized some = (
   record { before = items; clients = []; is = refl },
   subst (Sized 0) (sym (phases_push items (item.Phase []))) (begun k (phases_in items) sized some),
@@ -93,7 +95,6 @@ add_phase items k sized some = (
 
 add_tick : (items : List Item) (k ticks : ℕ) → Sized k (phases_in items) → Full k (phases_in items)
     → Stands (Some word.Tick) k (items ++ item.Tick ticks ∷ [])
-unfolding Stands
 add_tick items k ticks sized some =
     let none : phases_in items ≡ phases_in (items ++ item.Tick ticks ∷ []) =
     sym (phases_push items (item.Tick ticks) ∙ append-nil (phases_in items)) in
@@ -121,7 +122,6 @@ size_of items h k sized =
 
 add_client : (items : List Item) (k : ℕ) → HasPhase items → Sized k (phases_in items) → k < 8
     → Stands (Some word.Client) (k + 1) (on_last with_client items)
-unfolding Stands
 add_client items k h sized room =
     let bare : Client = record { commands = [] } in
     let long : length (h.clients ++ bare ∷ []) ≡ k + 1 =
@@ -146,7 +146,6 @@ add_command items k c h sized =
 in_client : (so : SoFar) (n : ℕ) (form : Form) → may_follow_command (first_word form) ≡ true → Keeps so form
     → HasPhase so.script.items → Sized so.clients (phases_in so.script.items) → (1 ≤ so.clients) × (so.clients ≤ 8)
     → Stands (Some (first_word form)) (clients_with so form) (with_form so.script n form).items
-unfolding Stands
 in_client so n says.Client e timely h sized some = add_client so.script.items so.clients h sized timely
 in_client so n says.Phase e timely h sized some =
     add_phase so.script.items so.clients sized (full so.clients (phases_in so.script.items) some)
@@ -161,7 +160,7 @@ in_client so n form e timely h sized some = absurd cc
 next : (last : LineWord) (so : SoFar) (n : ℕ) (form : Form) → may_follow last (first_word form) ≡ true
     → Keeps so form → Stands (Some last) so.clients so.script.items
     → Stands (Some (first_word form)) (clients_with so form) (with_form so.script n form).items
-unfolding may_follow Stands
+unfolding may_follow
 next word.Phase so n says.Client e timely h = add_client so.script.items so.clients h.0 h.1 timely
 next word.Phase so n form e timely h = absurd cc
 next word.Client so n form e timely h = in_client so n form e timely h.0 h.1 h.2
@@ -172,10 +171,9 @@ next last so n says.Client e timely h = absurd cc
 next last so n (says.Command a) e timely h = absurd cc
 next last so n form e timely h = h
 
-line_stands : (so : SoFar) (line : List ℕ) (form : Form) → LineIs so line form
+pub line_stands : (so : SoFar) (line : List ℕ) (form : Form) → LineIs so line form
     → Stands so.last so.clients so.script.items
     → Stands (Some (first_word form)) (clients_with so form) (with_form so.script (so.lines + 1) form).items
-unfolding Stands
 line_stands so line form is h =
     elim is.place [
       | inl first ↦ subst
@@ -184,25 +182,3 @@ line_stands so line form is h =
       | inr (last, was, follows) ↦ next last so (so.lines + 1) form follows is.keeps
           (subst (λ l. Stands l so.clients so.script.items) was h)
     ]
-
-lines_stand : (so : SoFar) (lines : List (List ℕ)) (forms : List Form) → MakeForms so lines forms
-    → Stands so.last so.clients so.script.items
-    → Stands (so_with so forms).last (so_with so forms).clients (so_with so forms).script.items
-lines_stand so [] [] made h = h
-lines_stand so [] (form ∷ forms) made h = absurd made
-lines_stand so (line ∷ lines) [] made h = absurd made
-lines_stand so (line ∷ lines) (form ∷ forms) made h =
-    lines_stand (with_line so form) lines forms made.1 (line_stands so line form (line_is so line form made.0) h)
-
--- a phase of a script has one to eight clients
-pub clients_are_few : (text : List ℕ) (s : Script) → IsScript text s → (phase : ℕ) → 1 ≤ phase
-    → phase ≤ length (phases_in s.items) → (1 ≤ length (clients_of s phase)) × (length (clients_of s phase) ≤ 8)
-unfolding so_of Stands
-clients_are_few text s is phase some low =
-    let start : Stands None 0 [] = (tt, tt) in
-    let end = subst (λ l. Stands l (so_of is.forms).clients (so_of is.forms).script.items) is.lines.ended
-    (lines_stand so_before _ is.forms is.lines.lines start) in
-    let items : (so_of is.forms).script.items ≡ s.items = ap (λ (x : Script). x.items) (sym is.says) in
-    size_at (so_of is.forms).clients (phases_in s.items) (phase - 1)
-    (subst (λ xs. Sized (so_of is.forms).clients (phases_in xs)) items end.0)
-    (subst (λ xs. Full (so_of is.forms).clients (phases_in xs)) items end.1) (omega (arith, some, low))

@@ -25,7 +25,7 @@ use Rattle.mf_script.specs.Scripts.{IsScript}
 use Rattle.mf_script.specs.Faults.{main_code, IsFault}
 use Rattle.mf_script.specs.Laws.{bare, OneAnswer}
 use Rattle.mf_script.proofs.PassLemmas.{line_in, kind_in, read_text-have, read_text-fault}
-use Rattle.mf_script.proofs.ScriptLemmas.{HasOne-script}
+use Rattle.mf_script.proofs.SoundLemmas.{sound}
 
 -- ---- what the lines of a text add up to is one thing, and a fault of its lines is no script
 
@@ -95,7 +95,7 @@ no_family_fault stages points family.Memory chain is other h = other refl
 
 main_kept : (text : List ℕ) (s : Script) (is : IsScript text s) → IsCode (main_code (so_of is.forms).script)
 main_kept text s is =
-    let one = ap length (HasOne-script text s is).families in
+    let one = ap length (sound text s is).one.families in
     subst (λ x. IsCode (main_code x)) is.says (is.families 0 no_block (omega arith))
 
 pub fault_is_no_script : (text : List ℕ) (n : ℕ) (k : Kind) → IsFault text n k → (s : Script) → IsScript text s → ⊥

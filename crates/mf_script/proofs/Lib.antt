@@ -1,6 +1,7 @@
 pub mod Lists
 pub mod TextLemmas
 pub mod PassLemmas
+pub mod Along
 pub mod Building
 pub mod RoundTrip
 pub mod PhaseLemmas
@@ -8,6 +9,8 @@ pub mod PolicyLemmas
 pub mod ClientLemmas
 pub mod ScriptLemmas
 pub mod Limits
+pub mod Known
+pub mod SoundLemmas
 pub mod ReadingLemmas
 pub mod Exclusive
 pub mod Drawing

@@ -1,11 +1,12 @@
--- Every script keeps its limits.
+-- The limits of scripts, line by line, and those of their files.
 use Rattle.std.proofs.Common.{◌≡◌, ℕ, zero, suc, ◌+◌, ◌<◌, ◌≤◌, true, List, [], ◌∷◌, ◌++◌, length, Option, Some, None}
-use Rattle.std.proofs.Common.{refl, sym, ap, ◌∙◌, subst, arith, inl, inr, length-append}
+use Rattle.std.proofs.Common.{refl, sym, ap, ◌∙◌, subst, arith, inl, inr, length-append, get_or}
 use Rattle.std.specs.Prelude.{slice_get}
-use Rattle.std.proofs.lemmas.Option.{slice_get_within}
+use Rattle.std.specs.List.{All}
+use Rattle.std.proofs.lemmas.Option.{slice_get_within, slice_get-get_or}
+use Rattle.std.proofs.lemmas.List.Elements.{All-nil, All-push}
 use Rattle.std.proofs.lemmas.List.FromFn.{length-map-range_with_len}
 use Rattle.mf_code.specs.Chunks.{chunk_count}
-use Rattle.mf_text.specs.Lines.{lines_of}
 use Rattle.mf_lines.specs.declared.parts.Content.{Content}
 use Rattle.mf_lines.specs.declared.parts.Content.TheVariants as given
 use Rattle.mf_lines.specs.declared.parts.FileLine.{FileLine}
@@ -17,15 +18,13 @@ use Rattle.mf_lines.specs.declared.words.LineWord.{LineWord}
 use Rattle.mf_lines.specs.declared.words.LineWord.TheVariants as word
 use Rattle.mf_lines.specs.declared.forms.Form.{Form}
 use Rattle.mf_lines.specs.declared.forms.Form.TheVariants as says
-use Rattle.mf_lines.specs.Meaning.{SoFar, Script, so_before, so_with, so_of, with_line, with_form, on_last, with_client}
+use Rattle.mf_lines.specs.Meaning.{SoFar, Script, with_line, with_form, on_last, with_client}
 use Rattle.mf_lines.specs.Meaning.{client_with, with_command, phases_in, first_word}
 use Rattle.mf_lines.specs.Lines.{content_length, may_follow_command, may_follow}
 use Rattle.mf_lines.specs.Keeps.{FileFits, NewFile, Keeps}
-use Rattle.mf_lines.proofs.FormLemmas.{LineIs, line_is}
+use Rattle.mf_lines.proofs.FormLemmas.{LineIs}
 use Rattle.mf_script.specs.Contents.{bytes_in}
-use Rattle.mf_script.specs.Texts.{MakeForms}
-use Rattle.mf_script.specs.Scripts.{IsScript}
-use Rattle.mf_script.specs.Limits.{in_clients, in_item, in_items, FilesFit, Limits, FileIs}
+use Rattle.mf_script.specs.Limits.{in_clients, in_item, in_items, FileIs}
 
 length-on_last : {X : Type 0} (f : X → X) (xs : List X) → length (on_last f xs) ≡ length xs
 length-on_last f [] = refl
@@ -106,32 +105,31 @@ phases-command c (item.Phase cs ∷ y ∷ xs) = ap suc (phases-command c (y ∷ 
 
 -- ---- what is kept line by line
 
-files_fit : (chunk : ℕ) (fs : List FileLine) (f : FileLine) → FilesFit chunk fs → FileFits chunk f.content
-    → FilesFit chunk (fs ++ f ∷ [])
-unfolding FilesFit
-files_fit chunk [] f h new = (new, tt)
-files_fit chunk (x ∷ xs) f h new = (h.0, files_fit chunk xs f h.1 new)
+-- a file fits this chunk size, and each of these does
+abbrev Fits : ℕ → FileLine → Type 0
+Fits chunk file = FileFits chunk file.content
+
+abbrev FilesFit : ℕ → List FileLine → Type 0
+FilesFit chunk files = All (Fits chunk) files
 
 no_files_fit : (chunk : ℕ) (fs : List FileLine) → fs ≡ [] → FilesFit chunk fs
-unfolding FilesFit
-no_files_fit chunk fs e = subst (FilesFit chunk) (sym e) tt
+no_files_fit chunk fs e = subst (FilesFit chunk) (sym e) (All-nil (Fits chunk))
 
 -- there is a chunk size, from the line of it on; before there is no file
-Chunked : LineWord → Script → Type 0
+abbrev pub Chunked : LineWord → Script → Type 0
 Chunked word.Morph s = s.files ≡ []
 Chunked word.Servers s = s.files ≡ []
 Chunked last s = (1 ≤ s.chunk) × (s.chunk ≤ 65536)
 
-record Kept (last : LineWord) (s : Script) : Type 0 where
-  chunk : Chunked last s
-  files : FilesFit s.chunk s.files
+pub record Kept (last : LineWord) (s : Script) : Type 0 where
+  pub chunk : Chunked last s
+  pub files : FilesFit s.chunk s.files
 
-After : SoFar → Form → Type 0
+abbrev After : SoFar → Form → Type 0
 After so form = Kept (first_word form) (with_form so.script (so.lines + 1) form)
 
 in_client : (so : SoFar) (form : Form) → may_follow_command (first_word form) ≡ true
     → (1 ≤ so.script.chunk) × (so.script.chunk ≤ 65536) → FilesFit so.script.chunk so.script.files → After so form
-unfolding Chunked After
 in_client so says.Client e chunk files = record { chunk = chunk; files = files }
 in_client so says.Phase e chunk files = record { chunk = chunk; files = files }
 in_client so (says.Tick ticks) e chunk files = record { chunk = chunk; files = files }
@@ -142,15 +140,14 @@ in_client so form e chunk files = absurd cc
 
 file_more : (so : SoFar) (f : FileLine) → NewFile so f → (1 ≤ so.script.chunk) × (so.script.chunk ≤ 65536)
     → FilesFit so.script.chunk so.script.files → After so (says.File f)
-unfolding Chunked After
 file_more so f own chunk files = record {
   chunk = chunk;
-  files = files_fit so.script.chunk so.script.files f files (own.fits chunk.0);
+  files = All-push (Fits so.script.chunk) so.script.files f files (own.fits chunk.0);
 }
 
 kept_more : (so : SoFar) (last : LineWord) (form : Form) → may_follow last (first_word form) ≡ true → Keeps so form
     → Kept last so.script → After so form
-unfolding may_follow Chunked After
+unfolding may_follow
 kept_more so word.Morph (says.Servers x) e own h = record { chunk = h.chunk; files = h.files }
 kept_more so word.Servers (says.Chunk x) e own h =
     record { chunk = own; files = no_files_fit x so.script.files h.chunk }
@@ -176,14 +173,14 @@ kept_more so word.Client form e own h = in_client so form e h.chunk h.files
 kept_more so (word.Command verb) form e own h = in_client so form e h.chunk h.files
 kept_more so last form e own h = absurd cc
 
-record Counts (so : SoFar) : Type 0 where
-  files : length so.script.files ≤ 64
-  counted_phases : length (phases_in so.script.items) ≡ so.phases
-  phases : so.phases ≤ 64
-  counted : in_items so.script.items ≤ so.commands
-  commands : so.commands ≤ 1024
+pub record Counts (so : SoFar) : Type 0 where
+  pub files : length so.script.files ≤ 64
+  pub counted_phases : length (phases_in so.script.items) ≡ so.phases
+  pub phases : so.phases ≤ 64
+  pub counted : in_items so.script.items ≤ so.commands
+  pub commands : so.commands ≤ 1024
 
-counts_more : (so : SoFar) (form : Form) → Keeps so form → Counts so → Counts (with_line so form)
+pub counts_more : (so : SoFar) (form : Form) → Keeps so form → Counts so → Counts (with_line so form)
 counts_more so (says.File f) own h = record {
   files = omega (arith, own.few, length-append so.script.files (f ∷ []));
   counted_phases = h.counted_phases;
@@ -231,13 +228,12 @@ counts_more so form own h =
     }
 
 -- before the first line, and behind lines
-KeptAt : Option LineWord → Script → Type 0
+abbrev pub KeptAt : Option LineWord → Script → Type 0
 KeptAt None s = s.files ≡ []
 KeptAt (Some last) s = Kept last s
 
-kept_line : (so : SoFar) (line : List ℕ) (form : Form) → LineIs so line form → KeptAt so.last so.script
+pub kept_line : (so : SoFar) (line : List ℕ) (form : Form) → LineIs so line form → KeptAt so.last so.script
     → After so form
-unfolding KeptAt Chunked After
 kept_line so line form is h =
     elim is.place [
       | inl first ↦
@@ -249,48 +245,7 @@ kept_line so line form is h =
       | inr (last, was, follows) ↦ kept_more so last form follows is.keeps (subst (λ l. KeptAt l so.script) was h)
     ]
 
-kept_lines : (so : SoFar) (lines : List (List ℕ)) (forms : List Form) → MakeForms so lines forms
-    → KeptAt so.last so.script → Counts so
-    → KeptAt (so_with so forms).last (so_with so forms).script × Counts (so_with so forms)
-unfolding KeptAt After
-kept_lines so [] [] made h n = (h, n)
-kept_lines so [] (form ∷ forms) made h n = absurd made
-kept_lines so (line ∷ lines) [] made h n = absurd made
-kept_lines so (line ∷ lines) (form ∷ forms) made h n =
-    let is = line_is so line form made.0 in
-    kept_lines (with_line so form) lines forms made.1 (kept_line so line form is h) (counts_more so form is.keeps n)
-
--- ---- of every script
-
-pub limits : (text : List ℕ) (s : Script) → IsScript text s → Limits s
-unfolding KeptAt Chunked so_of in_items
-limits text s is =
-    let so = so_of is.forms in
-    let all = kept_lines so_before (lines_of text) is.forms is.lines.lines refl
-    (record {
-      files = omega arith;
-      counted_phases = refl;
-      phases = omega arith;
-      counted = omega arith;
-      commands = omega arith;
-    }) in
-    let ended = subst (λ l. KeptAt l so.script) is.lines.ended all.0 in
-    subst Limits (sym is.says) (record {
-      chunk = ended.chunk;
-      files = all.1.files;
-      each = ended.files;
-      phases = omega (arith, all.1.counted_phases, all.1.phases);
-      commands = omega (arith, all.1.counted, all.1.commands);
-    })
-
 -- ---- a file of a script
-
-file_at : (chunk : ℕ) (fs : List FileLine) (n : ℕ) (line : FileLine) → FilesFit chunk fs → slice_get fs n ≡ Some line
-    → FileFits chunk line.content
-unfolding FilesFit
-file_at chunk [] n line h e = absurd cc
-file_at chunk (f ∷ fs) zero line h e = let same : f ≡ line = cc in subst (λ x. FileFits chunk x.content) same h.0
-file_at chunk (f ∷ fs) (suc n) line h e = file_at chunk fs n line h.1 e
 
 content_long : (content : Content) → length (bytes_in content) ≡ content_length content
 content_long given.Empty = refl
@@ -298,14 +253,17 @@ content_long (given.Text bytes) = refl
 content_long (given.Hex bytes) = refl
 content_long (given.Pattern n start) = length-map-range_with_len _ 0 n
 
-pub file_is : (s : Script) (text : List ℕ) (n : ℕ) (line : FileLine) → IsScript text s → slice_get s.files n ≡ Some line
-    → FileIs s n line
-file_is s text n line is at =
-    let all = limits text s is in
-    let fits = file_at s.chunk s.files n line all.each at in
+-- the limits of a file that fits
+pub fit_file : (s : Script) (n : ℕ) (line : FileLine) → length s.files ≤ 64 → FilesFit s.chunk s.files
+    → slice_get s.files n ≡ Some line → FileIs s n line
+fit_file s n line few each at =
+    let within = slice_get_within s.files n line at in
+    let there : Some (get_or s.files n line) ≡ Some line = sym (slice_get-get_or s.files n line within) ∙ at in
+    let same : get_or s.files n line ≡ line = cc in
+    let fits = subst (Fits s.chunk) same (each n line within) in
     let long = sym (content_long line.content) in
     record {
-      number = omega (arith, all.files, slice_get_within s.files n line at);
+      number = omega (arith, few, within);
       short = subst (λ m. m ≤ 1048576) long fits.short;
       cut = subst (λ m. chunk_count s.chunk m ≤ 1024) long fits.cut;
     }

@@ -12,14 +12,11 @@ use Rattle.mf_lines.specs.declared.parts.Item.{Item}
 use Rattle.mf_lines.specs.declared.parts.Item.TheVariants as item
 use Rattle.mf_lines.specs.declared.forms.Form.{Form}
 use Rattle.mf_lines.specs.declared.forms.Form.TheVariants as says
-use Rattle.mf_lines.specs.Meaning.{Script, SoFar, on_last, with_client, with_command, with_form, phases_in, so_before}
-use Rattle.mf_lines.specs.Meaning.{with_line, so_with, so_of}
+use Rattle.mf_lines.specs.Meaning.{SoFar, on_last, with_client, with_command, with_form, phases_in}
 use Rattle.mf_lines.specs.Keeps.{Keeps}
-use Rattle.mf_lines.proofs.FormLemmas.{line_is}
-use Rattle.mf_script.specs.Texts.{MakeForms}
-use Rattle.mf_script.specs.Scripts.{IsScript}
 use Rattle.mf_script.specs.Losses.{phase_losses}
 use Rattle.mf_script.specs.Phases.{ticks_ahead}
+use Rattle.mf_script.specs.Sound.{ticks_of, ticks_in}
 use Rattle.mf_script.proofs.RoundTrip.{lines_le}
 
 -- ---- the next item
@@ -84,26 +81,18 @@ ticks_rise (item.Phase clients ∷ items) zero n le = omega arith
 ticks_rise (item.Phase clients ∷ items) (suc m) zero le = absurd (omega (arith, le))
 ticks_rise (item.Phase clients ∷ items) (suc m) (suc n) le = ticks_rise items m n (omega (arith, le))
 
-abbrev ticks_of : Item → ℕ
-ticks_of (item.Tick ticks) = ticks
-ticks_of (item.Phase clients) = 0
-
-abbrev all_ticks : List Item → ℕ
-all_ticks [] = 0
-all_ticks (x ∷ items) = ticks_of x + all_ticks items
-
-ahead_few : (items : List Item) (n : ℕ) → ticks_ahead items n ≤ all_ticks items
+pub ahead_few : (items : List Item) (n : ℕ) → ticks_ahead items n ≤ ticks_in items
 ahead_few [] n = omega arith
 ahead_few (item.Tick ticks ∷ items) n = omega (arith, ahead_few items n)
 ahead_few (item.Phase clients ∷ items) zero = omega arith
 ahead_few (item.Phase clients ∷ items) (suc n) = omega (arith, ahead_few items n)
 
-all_push : (items : List Item) (x : Item) → all_ticks (items ++ x ∷ []) ≡ all_ticks items + ticks_of x
+all_push : (items : List Item) (x : Item) → ticks_in (items ++ x ∷ []) ≡ ticks_in items + ticks_of x
 all_push [] x = omega arith
 all_push (y ∷ items) x = omega (arith, all_push items x)
 
 all_last : (change : Item → Item) → ((x : Item) → ticks_of (change x) ≡ ticks_of x) → (items : List Item)
-    → all_ticks (on_last change items) ≡ all_ticks items
+    → ticks_in (on_last change items) ≡ ticks_in items
 all_last change same [] = refl
 all_last change same (x ∷ []) = ap (λ n. n + 0) (same x)
 all_last change same (x ∷ y ∷ items) = ap (λ n. ticks_of x + n) (all_last change same (y ∷ items))
@@ -116,8 +105,8 @@ command_same : (c : Command) (x : Item) → ticks_of (with_command c x) ≡ tick
 command_same c (item.Tick ticks) = refl
 command_same c (item.Phase clients) = refl
 
-form_few : (so : SoFar) (n : ℕ) (form : Form) → Keeps so form
-    → all_ticks (with_form so.script n form).items ≤ all_ticks so.script.items + 1000000000
+pub form_few : (so : SoFar) (n : ℕ) (form : Form) → Keeps so form
+    → ticks_in (with_form so.script n form).items ≤ ticks_in so.script.items + 1000000000
 form_few so n (says.Tick ticks) h = omega (arith, h, all_push so.script.items (item.Tick ticks))
 form_few so n says.Phase h = omega (arith, all_push so.script.items (item.Phase []))
 form_few so n says.Client h = omega (arith, all_last with_client client_same so.script.items)
@@ -126,30 +115,16 @@ form_few so n (says.Command a) h =
     omega (arith, all_last (with_command c) (command_same c) so.script.items)
 form_few so n form h = omega arith
 
-lines_few : (so : SoFar) (lines : List (List ℕ)) (forms : List Form) → MakeForms so lines forms
-    → all_ticks (so_with so forms).script.items ≤ all_ticks so.script.items + 1000000000 * length lines
-lines_few so [] [] made = omega arith
-lines_few so [] (form ∷ forms) made = absurd made
-lines_few so (line ∷ lines) [] made = absurd made
-lines_few so (line ∷ lines) (form ∷ forms) made =
-    let one = form_few so (so.lines + 1) form (line_is so line form made.0).keeps in
-    let rest = lines_few (with_line so form) lines forms made.1 in
-    omega arith
-
 many_lines : (ls : List (List ℕ)) → length ls ≤ length (join_with_byte 10 ls) + 1
 many_lines [] = omega arith
 many_lines (l ∷ []) = omega arith
 many_lines (l ∷ m ∷ ls) =
     omega (arith, many_lines (m ∷ ls), length-append l (10 ∷ join_with_byte 10 (m ∷ ls)))
 
-pub few_ticks : (text : List ℕ) (s : Script) → IsScript text s → (n : ℕ) → ticks_ahead s.items n < 2 ^ 64
-unfolding so_of
-few_ticks text s is n =
-    let all = lines_few so_before (lines_of text) is.forms is.lines.lines in
+-- a text has few lines
+pub few_lines : (text : List ℕ) → length text ≤ 1048576 → 1000000000 * length (lines_of text) < 2 ^ 64
+few_lines text short =
     let lines = many_lines (lines_of text) in
-    let short = lines_le text in
-    let bound = is.lines.short in
+    let le = lines_le text in
     let big : 1000000000 * 1048577 < 2 ^ 64 = lit< tt in
-    let front = ahead_few (so_of is.forms).script.items n in
-    let same = ap (λ (x : Script). ticks_ahead x.items n) is.says in
     omega arith

@@ -7,18 +7,16 @@ use Rattle.mf_lines.specs.declared.words.LineWord.{LineWord}
 use Rattle.mf_lines.specs.declared.words.LineWord.TheVariants as word
 use Rattle.mf_lines.specs.declared.forms.Form.{Form}
 use Rattle.mf_lines.specs.declared.forms.Form.TheVariants as says
-use Rattle.mf_lines.specs.Meaning.{Script, SoFar, main_of, first_word, with_form, so_before, with_line, so_with, so_of}
+use Rattle.mf_lines.specs.Meaning.{Script, SoFar, main_of, first_word, with_form}
 use Rattle.mf_lines.specs.Lines.{may_follow}
 use Rattle.mf_lines.specs.Keeps.{Keeps}
-use Rattle.mf_lines.proofs.FormLemmas.{LineIs, line_is}
-use Rattle.mf_script.specs.Texts.{MakeForms}
-use Rattle.mf_script.specs.Scripts.{IsScript}
+use Rattle.mf_lines.proofs.FormLemmas.{LineIs}
 
 abbrev pub Fits : Script → Type 0
 Fits s = IfSome s.policy (λ thresholds. length thresholds ≡ length (main_of s).stages)
 
 -- by the last line: there is none up to the stages
-abbrev Ruled : Option LineWord → Script → Type 0
+abbrev pub Ruled : Option LineWord → Script → Type 0
 Ruled None s = s.policy ≡ None
 Ruled (Some word.Morph) s = s.policy ≡ None
 Ruled (Some word.Servers) s = s.policy ≡ None
@@ -57,7 +55,7 @@ next last so n (says.Dump file) e timely ruled = fits last so.script ruled
 next last so n says.End e timely ruled = fits last so.script ruled
 next last so n form e timely ruled = absurd cc
 
-ruled_line : (so : SoFar) (line : List ℕ) (form : Form) → LineIs so line form → Ruled so.last so.script
+pub ruled_line : (so : SoFar) (line : List ℕ) (form : Form) → LineIs so line form → Ruled so.last so.script
     → Ruled (Some (first_word form)) (with_form so.script (so.lines + 1) form)
 ruled_line so line form is ruled =
     elim is.place [
@@ -66,18 +64,3 @@ ruled_line so line form is ruled =
       | inr (last, was, follows) ↦ next last so (so.lines + 1) form follows is.keeps
           (subst (λ l. Ruled l so.script) was ruled)
     ]
-
-ruled_lines : (so : SoFar) (lines : List (List ℕ)) (forms : List Form) → MakeForms so lines forms
-    → Ruled so.last so.script → Ruled (so_with so forms).last (so_with so forms).script
-ruled_lines so [] [] made ruled = ruled
-ruled_lines so [] (form ∷ forms) made ruled = absurd made
-ruled_lines so (line ∷ lines) [] made ruled = absurd made
-ruled_lines so (line ∷ lines) (form ∷ forms) made ruled =
-    ruled_lines (with_line so form) lines forms made.1 (ruled_line so line form (line_is so line form made.0) ruled)
-
-pub fit_policy : (text : List ℕ) (s : Script) → IsScript text s → Fits s
-unfolding so_of
-fit_policy text s is =
-    subst Fits (sym is.says)
-    (subst (λ l. Ruled l (so_of is.forms).script) is.lines.ended
-    (ruled_lines so_before _ is.forms is.lines.lines refl))

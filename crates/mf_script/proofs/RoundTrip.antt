@@ -30,6 +30,7 @@ use Rattle.mf_lines.proofs.LineWordLemmas.{KnowsFile}
 use Rattle.mf_lines.proofs.FormLemmas.{no_morph, LineIs, line_is}
 use Rattle.mf_script.specs.Texts.{MakeForms, HasForms}
 use Rattle.mf_script.specs.Printing.{script_text, AreAlike}
+use Rattle.mf_script.proofs.Along.{along}
 use Rattle.mf_script.proofs.Building.{forms_are}
 
 -- ---- names only grow, and no line's text changes by further names
@@ -110,12 +111,10 @@ kept_line so form knows (inr (last, was, follows)) =
 
 kept : (so : SoFar) (lines : List (List ℕ)) (forms : List Form) → MakeForms so lines forms
     → knows_servers so.last ≡ true → (so_with so forms).script.servers ≡ so.script.servers
-kept so [] [] made knows = refl
-kept so [] (form ∷ forms) made knows = absurd made
-kept so (line ∷ lines) [] made knows = absurd made
-kept so (line ∷ lines) (form ∷ forms) made knows =
-    let next = kept_line so form knows (line_is so line form made.0).place in
-    kept (with_line so form) lines forms made.1 next.0 ∙ next.1
+kept so lines forms made knows =
+    (along (λ done before now. (knows_servers now.last ≡ true) × (now.script.servers ≡ so.script.servers))
+    (λ done before now line form is h.
+    let next = kept_line now form h.0 is.place in (next.0, next.1 ∙ h.1)) [] [] so lines forms made (knows, refl)).1
 
 -- before they are known there are none, and behind that they are those of the script
 abbrev Counts : SoFar → Type 0

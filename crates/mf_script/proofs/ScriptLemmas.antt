@@ -3,7 +3,7 @@ use Rattle.std.proofs.Common.{◌≡◌, ◌≢◌, ℕ, zero, suc, get_or, ◌+
 use Rattle.std.proofs.Common.{Option}
 use Rattle.std.proofs.Common.{Ok, Err, refl, sym, ap, ◌∙◌, subst, arith, inl, inr}
 use Rattle.std.specs.Prelude.{codes, IfOk, All}
-use Rattle.std.proofs.lemmas.List.{map_push, length-map}
+use Rattle.std.proofs.lemmas.List.{length-map}
 use Rattle.std.proofs.lemmas.List.Elements.{All-nil, All-cons}
 use Rattle.mf_text.specs.Lines.{lines_of}
 use Rattle.mf_shape.specs.declared.ShapeFault.{ShapeFault}
@@ -20,19 +20,18 @@ use Rattle.mf_lines.specs.declared.parts.Kind.{Kind}
 use Rattle.mf_lines.specs.declared.parts.Kind.TheVariants as kind
 use Rattle.mf_lines.specs.declared.parts.ScriptFault.{ScriptFault}
 use Rattle.mf_lines.specs.declared.draft.Draft.{Draft}
-use Rattle.mf_lines.specs.declared.forms.Form.{Form}
-use Rattle.mf_lines.specs.declared.forms.Form.TheVariants as says
-use Rattle.mf_lines.specs.Meaning.{Block, Script, SoFar, on_last, with_points, with_stage, with_form, no_block}
-use Rattle.mf_lines.specs.Meaning.{so_before, with_line, so_with, so_of, main_of}
+use Rattle.mf_lines.specs.Meaning.{Script, SoFar, no_block, so_of, main_of}
 use Rattle.mf_lines.specs.Drafts.{script_in, so_in}
 use Rattle.mf_script.specs.declared.script.NamedFamily.{NamedFamily}
 use Rattle.mf_script.specs.Passes.{read_text}
 use Rattle.mf_script.specs.Texts.{HasForms}
-use Rattle.mf_script.specs.Scripts.{block_of, code_of, script_with, IsScript, IsKept}
+use Rattle.mf_script.specs.Scripts.{block_of, code_of, script_with, IsScript}
+use Rattle.mf_script.specs.Sound.{HasOne, IsKept}
 use Rattle.mf_script.specs.Faults.{main_code, shape_kind, family_kind, IsFault, IsScriptFault}
 use Rattle.mf_script.specs.Printing.{script_forms, script_text, AreAlike}
 use Rattle.mf_script.proofs.PassLemmas.{HasSo, so_read, fault_read}
 use Rattle.mf_script.proofs.RoundTrip.{alike_lines, no_longer, again}
+use Rattle.mf_script.proofs.SoundLemmas.{sound}
 
 -- ---- faults
 
@@ -153,8 +152,7 @@ module _ (text : List ℕ) (draft : Draft) (read : read_text text ≡ Ok (so_in 
 
     pub read_kept : IsKept families read_script
     read_kept = record {
-      text = text;
-      is = read_is;
+      sound = sound text read_script read_is;
       over = subst (All (λ (named : NamedFamily). named.family.shape.servers ≡ draft.servers)) (sym one)
           (All-cons (λ (named : NamedFamily). named.family.shape.servers ≡ draft.servers) (record {
             name =
@@ -163,46 +161,6 @@ module _ (text : List ℕ) (draft : Draft) (read : read_text text ≡ Ok (so_in 
           }) [] (ap (λ (c : Code). c.shape.servers) is)
           (All-nil (λ (named : NamedFamily). named.family.shape.servers ≡ draft.servers)));
     }
-
--- ---- a script has one family, to which every file belongs
-
-pub record HasOne (s : Script) : Type 0 where
-  pub block : Block
-  pub families : s.families ≡ block ∷ []
-  pub file_families : s.file_families ≡ map (λ (file : FileLine). 0) s.files
-
-HasOne-form : (s : Script) (n : ℕ) (form : Form) → HasOne s → HasOne (with_form s n form)
-HasOne-form s n (says.Points points) h =
-    record {
-      block =
-          with_points points h.block;
-      families =
-          ap (on_last (with_points points)) h.families;
-      file_families = h.file_families;
-    }
-HasOne-form s n (says.Stage stage) h =
-    record {
-      block =
-          with_stage stage h.block;
-      families = ap (on_last (with_stage stage)) h.families;
-      file_families = h.file_families;
-    }
-HasOne-form s n (says.File file) h = record {
-  block = h.block;
-  families = h.families;
-  file_families = ap (λ hs. hs ++ 0 ∷ []) h.file_families ∙ sym (map_push (λ (f : FileLine). 0) s.files file);
-}
-HasOne-form s n form h = record { block = h.block; families = h.families; file_families = h.file_families }
-
-HasOne-with : (so : SoFar) (forms : List Form) → HasOne so.script → HasOne (so_with so forms).script
-HasOne-with so [] h = h
-HasOne-with so (form ∷ forms) h = HasOne-with (with_line so form) forms (HasOne-form so.script (so.lines + 1) form h)
-
-pub HasOne-script : (text : List ℕ) (s : Script) → IsScript text s → HasOne s
-unfolding so_of
-HasOne-script text s is =
-    subst HasOne (sym is.says)
-    (HasOne-with so_before is.forms (record { block = no_block; families = refl; file_families = refl }))
 
 -- ---- the family, and that of a file
 
@@ -268,7 +226,7 @@ printed_text servers chunk families policy files file_families items dumps = ref
 -- a script has at most 128 servers
 few_servers : (text : List ℕ) (s : Script) (is : IsScript text s) → (so_of is.forms).script.servers ≤ 128
 few_servers text s is =
-    let one = ap length (HasOne-script text s is).families in
+    let one = ap length (sound text s is).one.families in
     let code = is.families 0 no_block (omega arith) in
     subst (λ (x : Script). x.servers ≤ 128) is.says code.shape_ok.servers.1
 

@@ -6,6 +6,7 @@ pub mod Phases
 pub mod Losses
 pub mod Faults
 pub mod Limits
+pub mod Sound
 pub mod Laws
 pub mod Printing
 pub mod Seeds

@@ -1,5 +1,6 @@
--- What every script keeps: its limits.
+-- The limits of scripts.
 use Rattle.std.specs.Prelude.{◌≡◌, ◌<◌, ◌≤◌, ℕ, ◌+◌, List, [], ◌∷◌, length, slice_get, Some}
+use Rattle.std.specs.List.{All}
 use Rattle.mf_code.specs.Chunks.{chunk_count}
 use Rattle.mf_lines.specs.declared.parts.FileLine.{FileLine}
 use Rattle.mf_lines.specs.declared.parts.Client.{Client}
@@ -23,16 +24,12 @@ unfoldable pub in_items : List Item → ℕ
 in_items [] = 0
 in_items (x ∷ xs) = in_item x + in_items xs
 
--- each file fits this chunk size
-unfoldable pub FilesFit : ℕ → List FileLine → Type 0
-FilesFit chunk [] = Unit {0}
-FilesFit chunk (f ∷ fs) = FileFits chunk f.content × FilesFit chunk fs
-
--- A chunk size from 1 to 65,536; at most 64 files, each of which fits it; at most 64 phases, and at most 1,024 commands.
+-- A script of a text has a chunk size from 1 to 65,536; at most 64 files, each of which fits it; at most 64 phases, and
+-- at most 1,024 commands.
 pub record Limits (s : Script) : Type 0 where
   pub chunk : (1 ≤ s.chunk) × (s.chunk ≤ 65536)
   pub files : length s.files ≤ 64
-  pub each : FilesFit s.chunk s.files
+  pub each : All (λ (file : FileLine). FileFits s.chunk file.content) s.files
   pub phases : length (phases_in s.items) ≤ 64
   pub commands : in_items s.items ≤ 1024
 
@@ -42,7 +39,7 @@ pub record FileIs (s : Script) (n : ℕ) (line : FileLine) : Type 0 where
   pub short : length (bytes_in line.content) ≤ 1048576
   pub cut : chunk_count s.chunk (length (bytes_in line.content)) ≤ 1024
 
--- Every script keeps its limits, and each of its files those of a file.
+-- Each script of a text keeps its limits, and each of its files those of a file.
 pub record ScriptsKeepLimits : Type 0 where
   pub limits : (text : List ℕ) (s : Script) → IsScript text s → Limits s
   pub files : (text : List ℕ) (s : Script) (n : ℕ) (line : FileLine) → IsScript text s → slice_get s.files n ≡ Some line

@@ -38,9 +38,3 @@ pub record IsScript (text : List ℕ) (s : Script) : Type 0 where
   pub lines : HasForms text forms
   pub says : s ≡ (so_of forms).script
   pub families : All (λ block. IsCode (code_of s block)) s.families
-
--- what every script keeps: some text is this script, and its families are over its servers
-pub record IsKept (families : List NamedFamily) (s : Script) : Type 0 where
-  pub text : List ℕ
-  pub is : IsScript text s
-  pub over : All (λ (named : NamedFamily). named.family.shape.servers ≡ s.servers) families

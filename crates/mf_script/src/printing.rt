@@ -322,11 +322,12 @@ fn print(
 }
 
 /// The text of a script: each line but the last ends with LF, and servers ascend behind `without`.
-/// It is read as the same script; every text that is read so has its lines, but for the order of
-/// such servers, and so none is shorter. Fails only where memory runs out.
+/// Where a text is this script, it is one too, and each such text has its lines, but for the order
+/// of such servers, and so none is shorter. Fails only where memory runs out.
 pub fn print_script(alloc: Global, script: &Script) -> Result<Vec<u8>, AllocError>
     ensures text { IfOk result (λ v. v.items ≡ script_text script.now) }
-    ensures again { IfOk result (λ v. IsScript v.items script.now) }
+    ensures again { IfOk result (λ v. (text : List ℕ) → IsScript text script.now
+        → IsScript v.items script.now) }
     ensures lines { IfOk result (λ v. (text : List ℕ) → IsScript text script.now
         → AreAlike (lines_of text) (lines_of v.items)) }
     ensures short { IfOk result

@@ -35,7 +35,8 @@ pub struct Script {
 
 impl Model for Script {
     ghost use Rattle.mf_lines.specs.Meaning as meaning;
-    ghost use Rattle.mf_script.specs.Scripts.{script_with, IsKept};
+    ghost use Rattle.mf_script.specs.Scripts.{script_with};
+    ghost use Rattle.mf_script.specs.Sound.{IsKept};
 
     ghost Value = { meaning.Script };
 
@@ -48,10 +49,11 @@ impl Model for Script {
 }
 
 impl Script {
-    ghost use Rattle.std.specs.Prelude.{◌≡◌, ◌<◌, ◌≤◌, ℕ, List, length, slice_index, option_copied};
+    ghost use Rattle.std.specs.Prelude.{◌≡◌, ◌<◌, ◌≤◌, length, slice_index, option_copied};
     ghost use Rattle.std.specs.Prelude.{IfOk, IfSome};
     ghost use Rattle.mf_lines.specs.Meaning.{main_of, phases_in};
-    ghost use Rattle.mf_script.specs.Scripts.{code_of, IsScript};
+    ghost use Rattle.mf_script.specs.Scripts.{code_of};
+    ghost use Rattle.mf_script.specs.Sound.{IsSound};
     ghost use Rattle.mf_script.specs.Losses.{losses_of};
     ghost use Rattle.mf_script.specs.Phases.{clients_of, ticks_before};
 
@@ -94,10 +96,10 @@ impl Script {
         self.files.as_slice()
     }
 
-    /// The ticks and the phases, in order. What is told besides is kept by every script.
+    /// The ticks and the phases, in order. What is told besides is what every script keeps.
     pub fn items(&self) -> &[Item]
         ensures value { result.now ≡ self.now.items }
-        ensures kept { (text : List ℕ) × IsScript text self.now }
+        ensures sound { IsSound self.now }
     {
         self.items.as_slice()
     }

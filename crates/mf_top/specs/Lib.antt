@@ -5,5 +5,5 @@ pub mod Writes
 pub mod Ends
 pub mod Laws
 pub mod Statuses
+
 -- Words of private functions, which no promise has.
-pub mod Between

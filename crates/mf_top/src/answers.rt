@@ -4,9 +4,9 @@ ghost use Rattle.std.specs.Prelude.{◌≡◌, List, ℕ, IsTrue, ◌↔◌, if�
 ghost use Rattle.std.specs.List.{list_any};
 ghost use Rattle.mf_script.specs.Faults.{IsScriptFault};
 ghost use Rattle.mf_script.specs.Scripts.{IsScript};
+ghost use Rattle.mf_script.specs.Sound.{IsSound};
 ghost use Rattle.mf_client.specs.Lacks.{lacks_memory};
 ghost use Rattle.mf_top.specs.Answers.{task_words};
-ghost use Rattle.mf_top.specs.Between.{IsOfText};
 ghost use Rattle.mf_top.specs.Writes.{Writes};
 
 use crate::phases::run;
@@ -68,7 +68,7 @@ fn answer_run<R: Threads + Wait + Sync, K: Sink, T: Turnstile>(
     sink: &mut K,
     turnstile: &T,
 ) -> Status
-    requires { IsOfText script.now }
+    requires { IsSound script.now }
     ensures { (text : List ℕ) → IsScript text script.now
         → Writes (record {
           written = K.written sink.old;

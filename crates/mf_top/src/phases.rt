@@ -4,9 +4,9 @@ ghost use Rattle.std.specs.Prelude.{◌≡◌, ◌≤◌, ◌++◌, ◌∷◌, [
 ghost use Rattle.std.specs.Prelude.{All, IfOk, OnOk, Some};
 ghost use Rattle.mf_client.specs.declared.done.Done.{Done};
 ghost use Rattle.mf_lines.specs.Meaning.{phases_in};
+ghost use Rattle.mf_script.specs.Sound.{IsSound};
 ghost use Rattle.mf_client.specs.Runs.{IsSmall};
 ghost use Rattle.mf_top.specs.ScriptRun.{new_file, new_files, AreOfLines, IsScriptRun};
-ghost use Rattle.mf_top.specs.Between.{IsOfText};
 
 use mf_client::{Done, Turnstile};
 use mf_crew::{PhaseRun, are_at_rest, run_phase};
@@ -25,7 +25,7 @@ pub fn run<R: Threads + Wait + Sync, T: Turnstile>(
     script: &Script,
     turnstile: &T,
 ) -> Result<PhaseRun, AllocError>
-    requires { IsOfText script.now }
+    requires { IsSound script.now }
     ensures plain { IfOk result (λ ran. IsScriptRun script.now ran.done.items ran.files.items) }
     ensures left { IfOk result (λ ran. AreOfLines script.now ran.files.items) }
     ensures few { IfOk result (λ ran. length ran.done.items ≤ 4096) }
@@ -45,7 +45,7 @@ pub fn run<R: Threads + Wait + Sync, T: Turnstile>(
 
 // How many phases a script has.
 fn count_phases(script: &Script) -> u32
-    requires { IsOfText script.now }
+    requires { IsSound script.now }
     ensures { result ≡ length (phases_in script.now.items) }
 {
     let mut count = 0;
@@ -78,7 +78,7 @@ fn append(all: &mut Vec<Done>, more: Vec<Done>) -> Result<(), AllocError>
 
 // The script's files, none of them created.
 fn new_files(alloc: Global, script: &Script) -> Result<Vec<Plain>, AllocError>
-    requires { IsOfText script.now }
+    requires { IsSound script.now }
     ensures { IfOk result (λ files. files.items ≡ new_files script.now) }
 {
     let mut files = Vec::new(alloc);
@@ -90,7 +90,7 @@ fn new_files(alloc: Global, script: &Script) -> Result<Vec<Plain>, AllocError>
 
 // A file of the script, not created.
 fn new_file(alloc: Global, script: &Script, n: u32, line: &FileLine) -> Result<Plain, AllocError>
-    requires script { IsOfText script.now }
+    requires script { IsSound script.now }
     requires line { slice_get script.now.files n ≡ Some line.now }
     ensures { IfOk result (λ plain. plain ≡ new_file script.now n line.now) }
 {

@@ -1,5 +1,11 @@
-use Rattle.mf_script.proofs.Limits.{limits, file_is}
+use Rattle.mf_script.proofs.Limits.{fit_file}
+use Rattle.mf_script.proofs.SoundLemmas.{limits}
 use Rattle.mf_script.proofs.laws.scripts_keep_limits.Goals as goal
 
 pub returns : goal.returns
-returns c = record { limits = limits; files = λ text s n line is at. file_is s text n line is at }
+returns c = record {
+  limits = limits;
+  files = λ text s n line is at.
+      let all = limits text s is in
+      fit_file s n line all.files all.each at;
+}

@@ -19,9 +19,7 @@ returns-clause-text c =
 pub returns-clause-again : goal.returns-clause-again
 returns-clause-again c =
     if_ok-map c.print.result _ _
-    (λ v is. subst (λ t. IsScript t c.args.script.now) (sym is)
-    (printed c.script.invariant.text c.args.script.now
-    (subst (IsScript c.script.invariant.text) c.script.view_is c.script.invariant.is)))
+    (λ v is text script. subst (λ t. IsScript t c.args.script.now) (sym is) (printed text c.args.script.now script))
     (returns-clause-text c)
 
 pub returns-clause-short : goal.returns-clause-short

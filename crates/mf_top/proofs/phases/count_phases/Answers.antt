@@ -1,13 +1,11 @@
 use Rattle.std.proofs.Common.{arith}
-use Rattle.mf_script.proofs.Limits.{limits}
 use Rattle.mf_top.proofs.Running.{count_next, count_fits}
 use Rattle.mf_top.proofs.phases.count_phases.Goals as goal
 
 pub overflow_add-count : goal.overflow_add-count
 overflow_add-count c =
-    let all = limits c.requires.0 c.args.script.now c.requires.1 in
     let few = count_fits c.args.script.now.items c.loop-item.item-index c.loop-item.count c.loop-item.invariant
-    all.phases in
+    c.requires.phases in
     record { fits = omega (arith, few, c.phases_of-count.ensures.few) }
 
 pub loop-item-preserved : goal.loop-item-preserved

@@ -1,14 +1,12 @@
 use Rattle.std.proofs.Common.{length, ap, ◌∙◌, sym, arith, Some}
 use Rattle.std.specs.Prelude.{slice_get}
 use Rattle.std.proofs.lemmas.Option.{slice_get-get_or}
-use Rattle.mf_script.proofs.Limits.{limits}
 use Rattle.mf_top.proofs.Running.{new_next}
 use Rattle.mf_top.proofs.phases.new_files.Goals as goal
 
 pub overflow_cast-n : goal.overflow_cast-n
 overflow_cast-n c =
-    let all = limits c.requires.0 c.args.script.now c.requires.1 in
-    record { fits = omega (arith, all.files, c.loop-n-test.true, ap length c.files-line-items.ensures) }
+    record { fits = omega (arith, c.requires.files, c.loop-n-test.true, ap length c.files-line-items.ensures) }
 
 pub new_file-requires-clause-line : goal.new_file-requires-clause-line
 new_file-requires-clause-line c =

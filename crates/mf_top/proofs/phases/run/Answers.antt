@@ -4,7 +4,6 @@ use Rattle.mf_client.specs.declared.done.Done.{Done}
 use Rattle.mf_client.specs.Runs.{IsSmall}
 use Rattle.mf_script.specs.Phases.{ticks_before}
 use Rattle.mf_crew.specs.Files.{AllRestBy}
-use Rattle.mf_script.proofs.Limits.{limits}
 use Rattle.mf_top.proofs.Running.{begins, rest_on, has_phase, ticks_grow, run_next, run_ends}
 use Rattle.mf_top.proofs.Running.{plain_few, of_lines}
 use Rattle.mf_top.proofs.phases.run.Goals as goal
@@ -19,14 +18,13 @@ loop-phase-init g c = (
 
 pub overflow_add-phase : goal.overflow_add-phase
 overflow_add-phase g c =
-    let all = limits c.requires.0 c.args.script.now c.requires.1 in
     record {
       fits = omega (
         arith,
         c.loop-phase-test.true,
         c.loop-phase.auto.phase-end,
         c.count_phases-phase-end.ensures,
-        all.phases,
+        c.requires.phases,
       );
     }
 
@@ -62,11 +60,10 @@ returns-clause-plain g c =
 
 pub returns-clause-few : goal.returns-clause-few
 returns-clause-few g c =
-    let all = limits c.requires.0 c.args.script.now c.requires.1 in
     let ran = run_ends c.args.script.now c.loop-phase.phase c.loop-phase.done.items c.loop-phase.files.items
     (omega (arith, c.loop-phase-test.false, c.loop-phase.auto.phase-end, c.count_phases-phase-end.ensures))
     c.loop-phase.invariant.0 in
-    plain_few c.args.script.now c.loop-phase.done.items c.loop-phase.files.items ran all.commands
+    plain_few c.args.script.now c.loop-phase.done.items c.loop-phase.files.items ran c.requires.commands
 
 pub returns-clause-small : goal.returns-clause-small
 returns-clause-small g c = c.loop-phase.invariant.2

@@ -1,9 +1,10 @@
 use Rattle.mf_script.specs.Seeds.{seed_text}
+use Rattle.mf_script.proofs.SoundLemmas.{sound}
 use Rattle.mf_top.proofs.Summing.{run_of}
 use Rattle.mf_top.proofs.seeds.answer_run_of.Goals as goal
 
 pub run-requires-after_bounds : goal.run-requires-after_bounds
-run-requires-after_bounds g c κs within = (seed_text c.args.n, c.requires)
+run-requires-after_bounds g c κs within = sound (seed_text c.args.n) c.args.script.now c.requires
 
 pub returns-in-Ok : goal.returns-in-Ok
 returns-in-Ok g c =

@@ -3,7 +3,7 @@ use Rattle.std.specs.Prelude.{slice_index}
 use Rattle.std.proofs.lemmas.List.{length-map}
 use Rattle.mf_lines.specs.Meaning.{Script}
 use Rattle.mf_script.specs.Scripts.{block_of}
-use Rattle.mf_script.proofs.ScriptLemmas.{HasOne-script, has_main, home_within, home_is}
+use Rattle.mf_script.proofs.ScriptLemmas.{has_main, home_within, home_is}
 use Rattle.mf_script.proofs.script.Script.family_of.Goals as goal
 
 pub bounds-as_slice-file : goal.bounds-as_slice-file
@@ -14,7 +14,7 @@ bounds-as_slice-file c =
     subst (λ (hs : List ℕ). c.args.file < length hs) (sym c.as_slice.ensures.value)
     (home_within s.servers s.chunk s.policy s.files.items s.file_families.items s.items.items s.dumps.items
     s.families.items c.args.file
-    (HasOne-script c.self.invariant.text _ c.self.invariant.is) (omega (arith, c.requires)))
+    c.self.invariant.sound.one (omega (arith, c.requires)))
 
 pub returns-clause-number : goal.returns-clause-number
 returns-clause-number c =
@@ -24,7 +24,7 @@ returns-clause-number c =
 pub returns-clause-family : goal.returns-clause-family
 returns-clause-family c =
     let s = c.self.inside in
-    let one = HasOne-script c.self.invariant.text _ c.self.invariant.is in
+    let one = c.self.invariant.sound.one in
     let files : length s.files.items ≡ length c.args.self.now.files =
     ap (λ (v : Script). length v.files) c.self.view_is in
     let home : slice_index c.as_slice.result.now c.args.file ≡ 0 =

@@ -1,7 +1,6 @@
 use Rattle.std.proofs.Common.{subst}
-use Rattle.mf_script.specs.Scripts.{IsScript}
+use Rattle.mf_script.specs.Sound.{IsSound}
 use Rattle.mf_script.proofs.script.Script.items.Goals as goal
 
-pub returns-clause-kept : goal.returns-clause-kept
-returns-clause-kept c =
-    (c.self.invariant.text, subst (IsScript c.self.invariant.text) c.self.view_is c.self.invariant.is)
+pub returns-clause-sound : goal.returns-clause-sound
+returns-clause-sound c = subst IsSound c.self.view_is c.self.invariant.sound

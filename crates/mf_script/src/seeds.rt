@@ -2,7 +2,8 @@
 
 ghost use Rattle.std.specs.Prelude.{◌≡◌, ◌<◌, ◌++◌, IfOk, IfErr, OnOk};
 ghost use Rattle.mf_script.specs.Scripts.{IsScript};
-ghost use Rattle.mf_script.specs.Seeds.{next, behind, draw, ended, spaced, on_file, store_lines};
+ghost use Rattle.std.specs.String.{string_bytes};
+ghost use Rattle.mf_script.specs.Seeds.{next, behind, draw, ended, on_file, store_lines};
 ghost use Rattle.mf_script.specs.Seeds.{file_line, file_lines, creator_lines, creators_lines, verb};
 ghost use Rattle.mf_script.specs.Seeds.{turn_lines, client_lines, clients_lines, loss_lines};
 ghost use Rattle.mf_script.specs.Seeds.{sweep_lines, round_lines, rounds_lines, dump_lines};
@@ -11,7 +12,6 @@ ghost use Rattle.mf_script.specs.Seeds.{seed_text};
 use crate::reading::read_script;
 use crate::script::Script;
 use mf_lines::{Kind, ScriptFault};
-use mf_text::push_decimal;
 use std::alloc::{AllocError, Global};
 
 const MULTIPLIER: u64 = 6_364_136_223_846_793_005;
@@ -19,7 +19,7 @@ const MULTIPLIER: u64 = 6_364_136_223_846_793_005;
 const INCREMENT: u64 = 1_442_695_040_888_963_407;
 
 // The lines of the store.
-const STORE: &[u8] = b"\
+const STORE: &str = "\
     morph 1\nservers 16\nchunk 64\npoints 1 2 4\nstage 6 3 1\nstage 6 3 0\nstage 12 3 0\n\
     policy 0 7 30\n";
 
@@ -42,234 +42,193 @@ impl Draws {
     }
 }
 
-// A line.
-fn push_line(out: &mut Vec<u8>, line: &[u8]) -> Result<(), AllocError>
-    ensures { OnOk result (out.new.items ≡ out.old.items ++ ended line.now) }
-{
-    out.extend_from_slice(line)?;
-    out.push(b'\n')?;
-    Ok(())
-}
-
-// A space, and a number.
-fn push_number(out: &mut Vec<u8>, n: u64) -> Result<(), AllocError>
-    ensures { OnOk result (out.new.items ≡ out.old.items ++ spaced n) }
-{
-    out.push(b' ')?;
-    push_decimal(out, n)
-}
-
-// A word, and the name of a file.
-#[tactic(auto, using(std::proofs::lemmas::List::append_assoc))]
-fn push_named(out: &mut Vec<u8>, word: &[u8], file: u64) -> Result<(), AllocError>
-    ensures { OnOk result (out.new.items ≡ out.old.items ++ on_file word.now file) }
-{
-    out.extend_from_slice(word)?;
-    out.extend_from_slice(b" f")?;
-    push_decimal(out, file)
-}
-
 // A line of a word and the name of a file.
-#[tactic(auto, using(std::proofs::lemmas::List::append_assoc))]
-fn push_on_file(out: &mut Vec<u8>, word: &[u8], file: u64) -> Result<(), AllocError>
-    ensures { OnOk result (out.new.items ≡ out.old.items ++ ended (on_file word.now file)) }
+#[tactic(auto, unfolding(mf_text::specs::Decimal::decimal_text), using(std::proofs::lemmas::List::append_assoc))]
+fn write_on_file(out: &mut String, word: &str, file: u64) -> Result<(), AllocError>
+    ensures { OnOk result
+        (string_bytes out.new ≡ string_bytes out.old ++ ended (on_file word.now file)) }
 {
-    push_named(out, word, file)?;
-    out.push(b'\n')?;
-    Ok(())
-}
-
-// A line of a word and a number.
-#[tactic(auto, using(std::proofs::lemmas::List::append_assoc))]
-fn push_counted(out: &mut Vec<u8>, word: &[u8], n: u64) -> Result<(), AllocError>
-    ensures { OnOk result (out.new.items ≡ out.old.items ++ ended (word.now ++ spaced n)) }
-{
-    out.extend_from_slice(word)?;
-    push_number(out, n)?;
-    out.push(b'\n')?;
+    writeln!(out, "{word} f{file}")?;
     Ok(())
 }
 
 // The line of a file.
-#[tactic(auto, using(std::proofs::lemmas::List::append_assoc))]
-fn push_file(out: &mut Vec<u8>, draws: &mut Draws, file: u64) -> Result<(), AllocError>
+#[tactic(auto, unfolding(mf_text::specs::Decimal::decimal_text), using(std::proofs::lemmas::List::append_assoc))]
+fn write_file(out: &mut String, draws: &mut Draws, file: u64) -> Result<(), AllocError>
     ensures text { OnOk result
-        (out.new.items ≡ out.old.items ++ file_line draws.old.state file) }
+        (string_bytes out.new ≡ string_bytes out.old ++ file_line draws.old.state file) }
     ensures state { OnOk result (draws.new.state ≡ behind 2 draws.old.state) }
 {
     let length = draws.draw(4001);
     let start = draws.draw(251);
-    push_named(out, b"file", file)?;
-    out.extend_from_slice(b" pattern")?;
-    push_number(out, length)?;
-    push_number(out, start)?;
-    out.push(b'\n')?;
+    writeln!(out, "file f{file} pattern {length} {start}")?;
     Ok(())
 }
 
 // The lines of the files.
 #[tactic(auto, unfolding(crate::specs::Seeds::file_lines))]
-fn push_files(out: &mut Vec<u8>, draws: &mut Draws) -> Result<(), AllocError>
-    ensures text { OnOk result (out.new.items ≡ out.old.items ++ file_lines draws.old.state) }
+fn write_files(out: &mut String, draws: &mut Draws) -> Result<(), AllocError>
+    ensures text { OnOk result
+        (string_bytes out.new ≡ string_bytes out.old ++ file_lines draws.old.state) }
     ensures state { OnOk result (draws.new.state ≡ behind 16 draws.old.state) }
 {
     for file in 0..8 {
-        push_file(out, draws, file)?;
+        write_file(out, draws, file)?;
     }
     Ok(())
 }
 
 // The lines of a client that creates its files.
 #[tactic(auto, using(std::proofs::lemmas::List::append_assoc))]
-fn push_creator(out: &mut Vec<u8>, client: u64) -> Result<(), AllocError>
+fn write_creator(out: &mut String, client: u64) -> Result<(), AllocError>
     requires { client < 4 }
-    ensures { OnOk result (out.new.items ≡ out.old.items ++ creator_lines client) }
+    ensures { OnOk result (string_bytes out.new ≡ string_bytes out.old ++ creator_lines client) }
 {
-    push_line(out, b"client")?;
-    push_on_file(out, b"create", 2 * client)?;
-    push_on_file(out, b"create", 2 * client + 1)
+    writeln!(out, "client")?;
+    write_on_file(out, "create", 2 * client)?;
+    write_on_file(out, "create", 2 * client + 1)
 }
 
 // The lines of the clients that create the files.
 #[tactic(auto, unfolding(crate::specs::Seeds::creators_lines))]
-fn push_creators(out: &mut Vec<u8>) -> Result<(), AllocError>
-    ensures { OnOk result (out.new.items ≡ out.old.items ++ creators_lines) }
+fn write_creators(out: &mut String) -> Result<(), AllocError>
+    ensures { OnOk result (string_bytes out.new ≡ string_bytes out.old ++ creators_lines) }
 {
     for client in 0..4 {
-        push_creator(out, client)?;
+        write_creator(out, client)?;
     }
     Ok(())
 }
 
 // The command that a number stands for.
-fn verb(v: u64) -> &'static [u8]
+fn verb(v: u64) -> &'static str
     requires { v < 4 }
     ensures { result.now ≡ verb v }
 {
     match v {
-        0 => b"read",
-        1 => b"repair",
-        2 => b"convert",
-        _ => b"reclaim",
+        0 => "read",
+        1 => "repair",
+        2 => "convert",
+        _ => "reclaim",
     }
 }
 
 // The lines of a file's turn.
 #[tactic(auto, using(std::proofs::lemmas::List::append_assoc))]
-fn push_turn(out: &mut Vec<u8>, draws: &mut Draws, file: u64) -> Result<(), AllocError>
+fn write_turn(out: &mut String, draws: &mut Draws, file: u64) -> Result<(), AllocError>
     ensures text { OnOk result
-        (out.new.items ≡ out.old.items ++ turn_lines draws.old.state file) }
+        (string_bytes out.new ≡ string_bytes out.old ++ turn_lines draws.old.state file) }
     ensures state { OnOk result (draws.new.state ≡ next draws.old.state) }
 {
-    push_on_file(out, verb(draws.draw(4)), file)?;
-    push_on_file(out, b"read", file)
+    write_on_file(out, verb(draws.draw(4)), file)?;
+    write_on_file(out, "read", file)
 }
 
 // The lines of a client of a round.
 #[tactic(auto, using(std::proofs::lemmas::List::append_assoc))]
-fn push_client(out: &mut Vec<u8>, draws: &mut Draws, client: u64) -> Result<(), AllocError>
+fn write_client(out: &mut String, draws: &mut Draws, client: u64) -> Result<(), AllocError>
     requires { client < 4 }
     ensures text { OnOk result
-        (out.new.items ≡ out.old.items ++ client_lines draws.old.state client) }
+        (string_bytes out.new ≡ string_bytes out.old ++ client_lines draws.old.state client) }
     ensures state { OnOk result (draws.new.state ≡ behind 2 draws.old.state) }
 {
-    push_line(out, b"client")?;
-    push_turn(out, draws, 2 * client)?;
-    push_turn(out, draws, 2 * client + 1)
+    writeln!(out, "client")?;
+    write_turn(out, draws, 2 * client)?;
+    write_turn(out, draws, 2 * client + 1)
 }
 
 // The lines of the clients of a round.
 #[tactic(auto, unfolding(crate::specs::Seeds::clients_lines))]
-fn push_clients(out: &mut Vec<u8>, draws: &mut Draws) -> Result<(), AllocError>
+fn write_clients(out: &mut String, draws: &mut Draws) -> Result<(), AllocError>
     ensures text { OnOk result
-        (out.new.items ≡ out.old.items ++ clients_lines draws.old.state) }
+        (string_bytes out.new ≡ string_bytes out.old ++ clients_lines draws.old.state) }
     ensures state { OnOk result (draws.new.state ≡ behind 8 draws.old.state) }
 {
     for client in 0..4 {
-        push_client(out, draws, client)?;
+        write_client(out, draws, client)?;
     }
     Ok(())
 }
 
 // The lines of a tick and of the phase that loses a server.
-#[tactic(auto, unfolding(crate::specs::Seeds::loss_lines), using(std::proofs::lemmas::List::append_assoc))]
-fn push_loss(out: &mut Vec<u8>, draws: &mut Draws) -> Result<(), AllocError>
-    ensures text { OnOk result (out.new.items ≡ out.old.items ++ loss_lines draws.old.state) }
+#[tactic(auto, unfolding(crate::specs::Seeds::loss_lines, mf_text::specs::Decimal::decimal_text), using(std::proofs::lemmas::List::append_assoc))]
+fn write_loss(out: &mut String, draws: &mut Draws) -> Result<(), AllocError>
+    ensures text { OnOk result
+        (string_bytes out.new ≡ string_bytes out.old ++ loss_lines draws.old.state) }
     ensures state { OnOk result (draws.new.state ≡ behind 2 draws.old.state) }
 {
     let ticks = draws.draw(10);
     let server = draws.draw(16);
-    push_counted(out, b"tick", ticks)?;
-    push_line(out, b"phase")?;
-    push_line(out, b"client")?;
-    push_counted(out, b"lose", server)
+    writeln!(out, "tick {ticks}\nphase\nclient\nlose {server}")?;
+    Ok(())
 }
 
 // The lines of the phase that sweeps.
-#[tactic(auto, unfolding(crate::specs::Seeds::sweep_lines), using(std::proofs::lemmas::List::append_assoc))]
-fn push_sweep(out: &mut Vec<u8>) -> Result<(), AllocError>
-    ensures { OnOk result (out.new.items ≡ out.old.items ++ sweep_lines) }
+#[tactic(auto, unfolding(crate::specs::Seeds::sweep_lines))]
+fn write_sweep(out: &mut String) -> Result<(), AllocError>
+    ensures { OnOk result (string_bytes out.new ≡ string_bytes out.old ++ sweep_lines) }
 {
-    push_line(out, b"phase")?;
-    push_line(out, b"client")?;
-    push_line(out, b"sweep")
+    writeln!(out, "phase\nclient\nsweep")?;
+    Ok(())
 }
 
 // The lines of a round.
 #[tactic(auto, using(std::proofs::lemmas::List::append_assoc))]
-fn push_round(out: &mut Vec<u8>, draws: &mut Draws) -> Result<(), AllocError>
-    ensures text { OnOk result (out.new.items ≡ out.old.items ++ round_lines draws.old.state) }
+fn write_round(out: &mut String, draws: &mut Draws) -> Result<(), AllocError>
+    ensures text { OnOk result
+        (string_bytes out.new ≡ string_bytes out.old ++ round_lines draws.old.state) }
     ensures state { OnOk result (draws.new.state ≡ behind 10 draws.old.state) }
 {
-    push_loss(out, draws)?;
-    push_line(out, b"phase")?;
-    push_clients(out, draws)?;
-    push_sweep(out)
+    write_loss(out, draws)?;
+    writeln!(out, "phase")?;
+    write_clients(out, draws)?;
+    write_sweep(out)
 }
 
 // The lines of the rounds.
 #[tactic(auto, unfolding(crate::specs::Seeds::rounds_lines))]
-fn push_rounds(out: &mut Vec<u8>, draws: &mut Draws) -> Result<(), AllocError>
-    ensures { OnOk result (out.new.items ≡ out.old.items ++ rounds_lines draws.old.state) }
+fn write_rounds(out: &mut String, draws: &mut Draws) -> Result<(), AllocError>
+    ensures { OnOk result
+        (string_bytes out.new ≡ string_bytes out.old ++ rounds_lines draws.old.state) }
 {
     for _round in 0_u64..8 {
-        push_round(out, draws)?;
+        write_round(out, draws)?;
     }
     Ok(())
 }
 
 // The dump lines.
 #[tactic(auto, unfolding(crate::specs::Seeds::dump_lines))]
-fn push_dumps(out: &mut Vec<u8>) -> Result<(), AllocError>
-    ensures { OnOk result (out.new.items ≡ out.old.items ++ dump_lines) }
+fn write_dumps(out: &mut String) -> Result<(), AllocError>
+    ensures { OnOk result (string_bytes out.new ≡ string_bytes out.old ++ dump_lines) }
 {
     for file in 0..8 {
-        push_on_file(out, b"dump", file)?;
+        write_on_file(out, "dump", file)?;
     }
     Ok(())
 }
 
 // The lines of the store.
 #[tactic(auto, unfolding(crate::specs::Seeds::store_lines))]
-fn store(alloc: Global) -> Result<Vec<u8>, AllocError>
-    ensures { IfOk result (λ out. out.items ≡ store_lines) }
+fn store(alloc: Global) -> Result<String, AllocError>
+    ensures { IfOk result (λ out. string_bytes out ≡ store_lines) }
 {
-    Vec::from_slice(alloc, STORE)
+    String::from_str(alloc, STORE)
 }
 
 // The text of a seed.
 #[tactic(auto, unfolding(crate::specs::Seeds::seed_text), using(std::proofs::lemmas::List::append_assoc))]
-pub fn seed_text(alloc: Global, n: u64) -> Result<Vec<u8>, AllocError>
-    ensures { IfOk result (λ out. out.items ≡ seed_text n) }
+pub fn seed_text(alloc: Global, n: u64) -> Result<String, AllocError>
+    ensures { IfOk result (λ out. string_bytes out ≡ seed_text n) }
 {
     let mut draws = Draws { state: n };
     let mut out = store(alloc)?;
-    push_files(&mut out, &mut draws)?;
-    push_line(&mut out, b"phase")?;
-    push_creators(&mut out)?;
-    push_rounds(&mut out, &mut draws)?;
-    push_dumps(&mut out)?;
-    push_line(&mut out, b"end")?;
+    write_files(&mut out, &mut draws)?;
+    writeln!(out, "phase")?;
+    write_creators(&mut out)?;
+    write_rounds(&mut out, &mut draws)?;
+    write_dumps(&mut out)?;
+    writeln!(out, "end")?;
     Ok(out)
 }
 
@@ -279,7 +238,7 @@ fn read_seed(alloc: Global, n: u64) -> Result<Script, ScriptFault>
     ensures memory { IfErr result (λ fault. fault.kind ≡ Kind.Memory) }
 {
     match seed_text(alloc, n) {
-        Ok(text) => read_script(alloc, &text),
+        Ok(text) => read_script(alloc, text.as_bytes()),
         Err(_) => Err(ScriptFault {
             line: 0,
             kind: Kind::Memory,

@@ -4,5 +4,5 @@ use Rattle.mf_script.proofs.seeds.read_seed.Goals as goal
 
 pub returns-in-Ok-clause-memory : goal.returns-in-Ok-clause-memory
 returns-in-Ok-clause-memory c =
-    memory_alone c.args.n c.deref.result.now c.read_script.result (c.deref.ensures.value ∙ c.in-Ok.ensures)
+    memory_alone c.args.n c.as_bytes.result.now c.read_script.result (c.as_bytes.ensures.value ∙ c.in-Ok.ensures)
     c.read_script.ensures.none

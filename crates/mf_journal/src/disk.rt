@@ -8,7 +8,7 @@ ghost use Rattle.mf_journal.specs.declared.log.Log.{Log};
 ghost use Rattle.mf_journal.specs.declared.log.Origin.{Origin};
 
 /// A call failed, and its disk has counted it.
-#[derive(Clone, Copy, Debug, PartialEq, Eq)]
+#[derive(Clone, Copy)]
 pub struct Failed;
 
 /// Bytes that are read and written at places, and that a sync makes lasting.

@@ -8,7 +8,7 @@ use std::alloc::Global;
 const LIMIT: u64 = 268_435_456;
 
 /// Why a journal wasn't begun, or a record wasn't added.
-#[derive(Clone, Copy, Debug, PartialEq, Eq)]
+#[derive(Clone, Copy)]
 pub enum JournalFault {
     /// A call of the disk failed.
     Disk,

@@ -12,7 +12,7 @@ use crate::disk::{Disk, Failed};
 use std::alloc::{AllocError, AllocFailed, Global};
 
 /// Why a journal wasn't opened.
-#[derive(Clone, Copy, Debug, PartialEq, Eq)]
+#[derive(Clone, Copy)]
 pub enum OpenFault {
     /// A call of the disk failed.
     Disk,

@@ -37,7 +37,7 @@ use std::alloc::Global;
 use terms::Terms;
 
 /// A stage that a file may have from a tick on.
-#[derive(Clone, Copy, Debug, PartialEq, Eq)]
+#[derive(Clone, Copy)]
 pub struct Candidate {
     pub width: u32,
     pub parities: u32,
@@ -45,7 +45,7 @@ pub struct Candidate {
 }
 
 /// What `route` answers.
-#[derive(Debug, Drop)]
+#[derive(Drop)]
 pub enum RouteOutcome {
     /// The cheapest plan, by the numbers of its candidates.
     Plan { cost: u64, stages: Vec<u32> },

@@ -1,0 +1,9 @@
+use Rattle.std.proofs.Common.{if◌then◌else◌}
+use Rattle.mf_journal.specs.Calls.{counted, failed}
+use Rattle.mf_journal.specs.Memory.{next}
+use Rattle.mf_file.proofs.file.FileDiskDisk.read_at.Given as goal
+
+abbrev pub ghost-pick : goal.ghost-pick
+ghost-pick types a =
+    let k = a.from.now.1.now.value in
+    next (if a.from.now.0 then failed k.log else counted k.log) k

@@ -31,7 +31,7 @@ quotient-le a b d pos e h = ⊎_elim
     (λ fine. fine)
     (cases_lt (a / d) (b / d))
 
-same-mod : (a b d : ℕ) → 0 < d → a % d ≡ b % d → a < b + d → b < a + d → a ≡ b
+pub same-mod : (a b d : ℕ) → 0 < d → a % d ≡ b % d → a < b + d → b < a + d → a ≡ b
 same-mod a b d pos e h k =
     let low = quotient-le a b d pos e k in
     let high = quotient-le b a d pos (sym e) h in

@@ -8,3 +8,4 @@ pub mod Stripes
 pub mod Placed
 pub mod Passing
 pub mod Sets
+pub mod OnServer

@@ -1,12 +1,17 @@
 //! The names of a generation, of a stripe, and of a server.
-ghost use Rattle.std.specs.Prelude.{◌≡◌, ◌-◌, ◌<◌, ◌≤◌, ◌++◌, length, map, filter, All, IfOk, OnOk};
+ghost use Rattle.std.specs.Prelude.{◌≡◌, ◌-◌, ◌<◌, ◌≤◌, ◌++◌, ◌∷◌, [], length, map, filter};
+ghost use Rattle.std.specs.Prelude.{All, IfOk, OnOk, true, false};
 ghost use Rattle.std.specs.List.{range_with_len};
-ghost use Rattle.mf_shape.specs.Stages.{width_at};
-ghost use Rattle.mf_places.specs.Names.{HasName, all_names, stripes_of};
+ghost use Rattle.mf_shape.specs.Stages.{width_at, copies_at};
+ghost use Rattle.mf_places.specs.Names.{HasName, all_names, data_names, copies_named};
+ghost use Rattle.mf_places.specs.Names.{width_parities, stripe_parities, stripes_of};
+ghost use Rattle.mf_places.specs.Names.{parities_of};
 ghost use Rattle.mf_places.specs.Generations.{holds, holds_in, stripe_names};
 ghost use Rattle.mf_places.specs.Placement.{is_on};
+ghost use Rattle.mf_places.specs.Rows.{step_behind, HasNoneOn};
 
 use crate::{Book, Memory, Name};
+use mf_shape::{MAX_PARITIES, MAX_WIDTH};
 use std::alloc::Global;
 
 impl Book {
@@ -63,15 +68,118 @@ impl Book {
             found.items ≡ filter (is_on self.now server) (all_names self.now)) }
         ensures had { IfOk result (λ found. All (HasName self.now) found.items) }
     {
+        let widths = self.widest + 1;
+        let copies = self.stage(0).copies;
         let mut found = Vec::new(self.allocator());
-        let end = self.count();
-        for n in 0..end {
-            let name = self.name(n);
-            if self.server(name) == server {
-                found.push(name)?;
-            }
+        self.push_data_on(&mut found, server)?;
+        for c in 0..copies {
+            self.push_copies_on(&mut found, c, server)?;
+        }
+        for width in 0..widths {
+            self.push_width_on(&mut found, width, server)?;
         }
         Ok(found)
+    }
+
+    // Appends the data on a server. Of as many chunks in turn as the greatest width one at most is.
+    fn push_data_on(&self, found: &mut Vec<Name>, server: u32) -> Result<(), Memory>
+        ensures { OnOk result (found.new.items
+            ≡ found.old.items ++ filter (is_on self.now server) (data_names self.now)) }
+    {
+        let mut i = 0;
+        while i < self.chunks {
+            let on = self.push_on(found, Name::Data(i), server)?;
+            i += self.step(on);
+        }
+        Ok(())
+    }
+
+    // Appends copy c of the chunks, as far as it is on a server.
+    fn push_copies_on(&self, found: &mut Vec<Name>, c: u32, server: u32) -> Result<(), Memory>
+        requires { c < copies_at self.now.shape.stages 0 }
+        ensures { OnOk result (found.new.items
+            ≡ found.old.items ++ filter (is_on self.now server) (copies_named self.now c)) }
+    {
+        let mut i = 0;
+        while i < self.chunks {
+            let on = self.push_on(found, Name::Copy(c, i), server)?;
+            i += self.step(on);
+        }
+        Ok(())
+    }
+
+    // Appends a name, if it is on a server, and says whether it is.
+    fn push_on(&self, found: &mut Vec<Name>, name: Name, server: u32) -> Result<bool, Memory>
+        requires { HasName self.now name }
+        ensures on { IfOk result (λ on. on ≡ is_on self.now server name) }
+        ensures found { OnOk result (found.new.items
+            ≡ found.old.items ++ filter (is_on self.now server) (name ∷ [])) }
+    {
+        let on = self.server(name) == server;
+        if on {
+            found.push(name)?;
+        }
+        Ok(on)
+    }
+
+    // How far to go on behind a chunk that is on a server, or isn't.
+    fn step(&self, on: bool) -> u32
+        ensures value { result ≡ step_behind self.now on }
+        ensures within { (1 ≤ result) × (result ≤ MAX_WIDTH) }
+    {
+        if on { self.widest } else { 1 }
+    }
+
+    // Appends the parities of a width, as far as they are on a server.
+    fn push_width_on(&self, found: &mut Vec<Name>, width: u32, server: u32) -> Result<(), Memory>
+        ensures { OnOk result (found.new.items
+            ≡ found.old.items ++ filter (is_on self.now server) (width_parities self.now width)) }
+    {
+        let parities = self.parities(width);
+        let some = self.has_parity_on(parities, server);
+        if !some {
+            return Ok(());
+        }
+        let stripes = self.chunks.div_ceil(width);
+        for j in 0..stripes {
+            self.push_stripe_on(found, width, j, parities, server)?;
+        }
+        Ok(())
+    }
+
+    // Whether, of the first parities of a stripe, one is on a server: of each stripe the same.
+    fn has_parity_on(&self, parities: u32, server: u32) -> bool
+        requires { parities ≤ MAX_PARITIES }
+        ensures some { result ≡ true → 0 < parities }
+        ensures none { result ≡ false → HasNoneOn self.now server parities }
+    {
+        for p in 0..parities {
+            let on = (self.file + (self.widest + p)) % self.shape.servers();
+            if on == server {
+                return true;
+            }
+        }
+        false
+    }
+
+    // Appends the parities of a stripe, as far as they are on a server.
+    fn push_stripe_on(
+        &self,
+        found: &mut Vec<Name>,
+        width: u32,
+        j: u32,
+        parities: u32,
+        server: u32,
+    ) -> Result<(), Memory>
+        requires stripe { j < stripes_of self.now width }
+        requires parities { parities ≡ parities_of self.now width }
+        ensures { OnOk result (found.new.items
+            ≡ found.old.items ++ filter (is_on self.now server) (stripe_parities self.now width j)) }
+    {
+        for p in 0..parities {
+            self.push_on(found, Name::Parity(width, j, p), server)?;
+        }
+        Ok(())
     }
 }
 

@@ -6,5 +6,3 @@ pub mod Seats
 pub mod Leaving
 pub mod Opening
 pub mod Resting
-pub mod Tried
-pub mod OneByte

@@ -25,10 +25,6 @@
 //! at rest, and hands the names back where memory runs out; `rest` leaves a file at rest, whose
 //! state the last pass's Made accounts for, with the causes of its Mets.
 //!
-//! *Only tested.* Two passes and a close over a pin; a name taken by one pass, as another meets it;
-//! passes split eight deep and joined; a lost name that is brought again, and one that is dropped
-//! once.
-//!
 //! *Neither.* That threads run beside each other, progress and speed.
 #![tactic(auto)]
 
@@ -43,8 +39,6 @@ mod gating;
 mod known;
 mod making;
 mod stepping;
-#[cfg(test)]
-mod tests;
 
 pub use answers::Taken;
 pub use gate::{Gate, Pass};

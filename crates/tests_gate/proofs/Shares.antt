@@ -23,3 +23,14 @@ joined_again p old new first second whole g a b m n s both = let share = λ (f :
     let n' : (view second).share ≡ (view new).share = ap share n.stands in
     let sum : (view whole).share ≡ (view p).share = omega arith in
     record { at = s.at; stands = s.stands ∙ ap (λ z. placed z 0 0) sum }
+
+-- the same where only the new half was used meanwhile
+pub rejoined : (p old new second whole : Pass) (g : Gate) → view old ≡ old_half (view p) → view new ≡ new_half (view p)
+    → Moves 0 0 new second g → IsPlaced 0 0 whole g → (view whole).share ≡ (view old).share + (view second).share
+    → Moves 0 0 p whole g
+rejoined p old new second whole g a b n s both =
+    let a' : (view old).share ≡ (old_half (view p)).share = ap (λ (v : View). v.share) a in
+    let b' : (view new).share ≡ (new_half (view p)).share = ap (λ (v : View). v.share) b in
+    let n' : (view second).share ≡ (view new).share = ap (λ (f : Frame). f.share) n.stands in
+    let sum : (view whole).share ≡ (view p).share = omega arith in
+    record { at = s.at; stands = s.stands ∙ ap (λ z. placed z 0 0) sum }

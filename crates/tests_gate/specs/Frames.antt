@@ -40,6 +40,11 @@ pub record Moves (hold right : ℕ) (p p' : Pass) (g : Gate) : Type 0 where
   pub at : IsAt p' g
   pub stands : frame (view p') ≡ placed (view p).share hold right
 
+-- the pass is of this gate, has the right, and pins generation g in its Work slot
+pub record IsMending (g : ℕ) (p : Pass) (gate : Gate) : Type 0 where
+  pub at : IsAt p gate
+  pub stands : frame (view p) ≡ record { share = (view p).share; hold = 0; work = g + 1; right = 1; inside = 0 }
+
 -- a builder, who has looked at the number m
 pub record Builds (m : ℕ) (p : Pass) (g : Gate) : Type 0 where
   pub placed : IsPlaced 0 1 p g

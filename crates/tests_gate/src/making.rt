@@ -36,7 +36,9 @@ const STAGES: [Stage; 3] = [
 fn book(alloc: Global) -> Result<Book, Fail>
     ensures { IfOk result (λ book. book ≡ book_ab) }
 {
-    let shape = Shape::new(alloc, &STAGES, SERVERS)?;
+    let Ok(shape) = Shape::new(alloc, &STAGES, SERVERS) else {
+        return Err(AllocError.into());
+    };
     Ok(Book::new(alloc, &shape, &[1], 1, 0, 2)?)
 }
 

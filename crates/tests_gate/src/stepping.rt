@@ -19,7 +19,7 @@ use std::alloc::Global;
 
 // Looks, and pins the published generation. None where there is none, or where the pin fell on a
 // closed one.
-fn pin(site: &Site, pass: &mut Pass) -> Option<u32>
+pub(crate) fn pin(site: &Site, pass: &mut Pass) -> Option<u32>
     requires { IsPlaced 0 0 pass.old site.now.gate }
     ensures none { IfNone result (Moves 0 0 pass.old pass.new site.now.gate) }
     ensures some { IfSome result (λ g. (g < length site.now.book.shape.stages)
@@ -120,7 +120,7 @@ pub(crate) fn close(site: &Site, pass: &mut Pass, g: u32, tally: &mut Tally) -> 
 }
 
 // Closes each generation that holds a name: whether all are closed.
-fn close_all(site: &Site, pass: &mut Pass, n: u32, tally: &mut Tally) -> bool
+pub(crate) fn close_all(site: &Site, pass: &mut Pass, n: u32, tally: &mut Tally) -> bool
     requires name { n < count_of site.now.book }
     requires placed { IsPlaced 0 0 pass.old site.now.gate }
     ensures moves { Moves 0 0 pass.old pass.new site.now.gate }
@@ -149,7 +149,7 @@ pub(crate) fn discard(site: &Site, pass: &mut Pass, n: u32, tally: &mut Tally)
 }
 
 // The line that empties a server.
-fn find_line(entries: &[LoseLine], server: u32) -> Option<u32>
+pub(crate) fn find_line(entries: &[LoseLine], server: u32) -> Option<u32>
     ensures { IfSome result (λ line. 0 < listed line server (lines entries.now)) }
 {
     for entry in entries {

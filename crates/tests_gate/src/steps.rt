@@ -8,6 +8,7 @@ use mf_vault::{Book, Rest};
 use std::alloc::{AllocError, Global};
 use std::sync::atomic::AtomicU64;
 use std::test::Fail;
+use std::thread::Threads;
 
 // The published number of a file that is removed.
 const REMOVED: u32 = 4;
@@ -64,36 +65,54 @@ fn sum(counts: &[u32]) -> u32 {
         .fold(0, |sum: u32, count| sum.wrapping_add(*count))
 }
 
-#[test]
-fn eight_threads_leave_the_file_as_they_counted(rt: HostRuntime) -> Result<(), Fail> {
-    let alloc = rt.alloc();
+// The first thing at rest that the threads counted otherwise, or that they should have met.
+fn first_other(
+    tally: &Tally,
+    servers: &[u32],
+    number: u32,
+    closed: &[bool],
+    names: &[Rest],
+) -> Option<&'static str> {
+    if number != REMOVED || tally.published.as_slice() != [0, 0, 1, 1, 1].as_slice() {
+        return Some("number");
+    }
+    let shut = closed.iter().map(|shut| *shut as u32);
+    if !shut.eq(tally.closed.as_slice().iter().copied()) {
+        return Some("generation");
+    }
+    if names.len() != NAMES as usize || first_unlike(tally, servers, names).is_some() {
+        return Some("name");
+    }
+    if tally.wrong > 0 || tally.right == 0 || tally.missed == 0 {
+        return Some("take");
+    }
+    if sum(tally.restored.as_slice()) == 0 || sum(tally.dropped.as_slice()) == 0 {
+        return Some("restore or drop");
+    }
+    None
+}
+
+// The same of a file on which eight threads ran.
+fn first_other_behind<R: Threads + Sync>(
+    rt: &R,
+    alloc: Global,
+) -> Result<Option<&'static str>, Fail> {
     let (site, mut pass) = new_site(alloc)?;
     let servers = servers_of(alloc, &site.book)?;
-    let chunks = cells(alloc, &site, &mut pass)?;
-    assert_eq!(rt; chunks.len(), 6);
-    let race = Race {
-        site,
-        cells: chunks,
-        begun: AtomicU64::new(0),
-    };
-    let Side { pass, tally } = run_all(&rt, alloc, &race, 1, THREADS, pass)?;
-    let Race {
-        site,
-        cells: _,
-        begun: _,
-    } = race;
+    let cells = cells(alloc, &site, &mut pass)?;
+    if cells.len() != 6 {
+        return Ok(Some("cell"));
+    }
+    let begun = AtomicU64::new(0);
+    let race = Race { site, cells, begun };
+    let Side { pass, tally } = run_all(rt, alloc, &race, 1, THREADS, pass)?;
+    let Race { site, .. } = race;
     let (number, closed, names) = site.gate.rest(pass);
-    assert_eq!(rt; number, REMOVED);
-    assert_eq!(rt; tally.published.as_slice(), [0, 0, 1, 1, 1].as_slice());
-    let shut = closed.as_slice().iter().map(|shut| *shut as u32);
-    assert!(rt; shut.eq(tally.closed.as_slice().iter().copied()));
-    assert_eq!(rt; names.len(), NAMES as usize);
-    assert_eq!(rt;
-        first_unlike(&tally, servers.as_slice(), names.as_slice()),
-        None
-    );
-    assert_eq!(rt; tally.wrong, 0);
-    assert!(rt; tally.right > 0 && tally.missed > 0);
-    assert!(rt; sum(tally.restored.as_slice()) > 0 && sum(tally.dropped.as_slice()) > 0);
+    Ok(first_other(&tally, &servers, number, &closed, &names))
+}
+
+#[test]
+fn eight_threads_leave_the_file_as_they_counted(rt: HostRuntime) -> Result<(), Fail> {
+    assert_eq!(rt; first_other_behind(&rt, rt.alloc())?, None);
     Ok(())
 }

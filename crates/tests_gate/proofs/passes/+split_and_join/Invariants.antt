@@ -1,4 +1,4 @@
-use Rattle.mf_gate.proofs.tests.+split_and_join.Given as goal
+use Rattle.tests_gate.proofs.passes.+split_and_join.Given as goal
 
 abbrev pub decreases-split_and_join : goal.decreases-split_and_join
 decreases-split_and_join l = l.share

@@ -8,3 +8,4 @@ pub mod Beginning
 pub mod Files
 pub mod Going
 pub mod Shares
+pub mod Noting

@@ -49,7 +49,7 @@ lost_is l x e = word_cases (λ y. state.Lost l ≡ row.see_answer y → y ≡ 4 
     (λ e. absurd (let z : state.Lost l ≡ state.Here = e in cc))
     (λ k e. ap (λ y. 4 + y) (let z : state.Lost l ≡ state.Lost k = e ∙ sees_lost k in let y : l ≡ k = cc in sym y)) x e
 
-away_never : (s x : ℕ) → state.Away s ≡ row.see_answer x → ⊥
+pub away_never : (s x : ℕ) → state.Away s ≡ row.see_answer x → ⊥
 away_never s x e = word_cases (λ y. state.Away s ≡ row.see_answer y → ⊥)
     (λ e. let z : state.Away s ≡ state.Unborn = e in cc)
     (λ e. let z : state.Away s ≡ state.Here = e in cc)

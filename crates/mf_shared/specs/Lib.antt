@@ -5,3 +5,4 @@ pub mod Whole
 pub mod Unbound
 pub mod Seats
 pub mod Left
+pub mod Noted

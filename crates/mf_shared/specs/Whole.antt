@@ -1,5 +1,5 @@
 -- What the access of an actor among many keeps.
-use Rattle.std.specs.Prelude.{ℕ, ◌≤◌, length}
+use Rattle.std.specs.Prelude.{ℕ, ◌-◌, ◌≤◌, length, vec_capacity}
 use Rattle.std.proofs.Common.{refl, sym, subst}
 use Rattle.mf_machine.proofs.Lists.{truth_le}
 use Rattle.mf_vault.specs.Actor.{Actor}
@@ -12,6 +12,10 @@ use Rattle.mf_shared.specs.Shared.{actor_of}
 -- what the access tells of its actor
 abbrev pub told_by : {R : Type 0} → SharedAccess R → Actor
 told_by s = actor_of s.shared.now s.pass s.ledger.items s.cut
+
+-- for how many more entries its ledger has room
+abbrev pub room_in : {R : Type 0} → SharedAccess R → ℕ
+room_in s = vec_capacity s.ledger - length s.ledger.items
 
 pub kept_of : {R : Type 0} (s : SharedAccess R) → IsKept (actor_of s.shared.now s.pass s.ledger.items s.cut)
 kept_of s = record {

@@ -1,10 +1,11 @@
 //! The two calls that may wait for another actor: a get and a lose of a name that it has Taken.
-ghost use Rattle.std.specs.Prelude.{◌≡◌};
+ghost use Rattle.std.specs.Prelude.{◌≡◌, ◌+◌, ◌<◌, ◌≤◌, IfSome};
 ghost use Rattle.mf_vault.specs.Actor as call;
-ghost use Rattle.mf_vault.specs.Answers.{IsReached};
+ghost use Rattle.mf_vault.specs.Answers.{Goes, IsGot, IsReached};
 ghost use Rattle.mf_vault.specs.May.{MayGet, MayLose};
+ghost use Rattle.mf_shared.specs.Noted.{CallMeets, NameMeets, note_of};
 ghost use Rattle.mf_shared.specs.Parts.{IsMade, TriesGet, TriesLose};
-ghost use Rattle.mf_shared.specs.Whole.{told_by};
+ghost use Rattle.mf_shared.specs.Whole.{told_by, room_in};
 
 use crate::access::SharedAccess;
 use crate::answering::shared;
@@ -20,6 +21,9 @@ impl<'a, R> SharedAccess<'a, R> {
         requires reached { IsReached (told_by self.old) name }
         ensures tries { TriesGet name result (told_by self.old) (told_by self.new) }
         ensures ledger { self.new.ledger ≡ self.old.ledger }
+        ensures noted { IfSome result (λ o. NameMeets (told_by self.old).facts name (IsGot o)
+            (note_of self.old) (note_of self.new)) }
+        ensures steps { (note_of self.old).count ≤ (note_of self.new).count }
     {
         let n = self.number(name);
         match self.shared.gate.take(&mut self.pass, n) {
@@ -38,6 +42,9 @@ impl<'a, R> SharedAccess<'a, R> {
         requires { MayLose name line (told_by self.old) }
         ensures tries { TriesLose name line result (told_by self.old) (told_by self.new) }
         ensures ledger { self.new.ledger ≡ self.old.ledger }
+        ensures noted { IfSome result (λ b. CallMeets (call.lose name line b) (told_by self.old)
+            (note_of self.old) (note_of self.new)) }
+        ensures steps { (note_of self.old).count ≤ (note_of self.new).count }
     {
         let n = self.number(name);
         match self.shared.gate.lose(&mut self.pass, n, line) {
@@ -55,6 +62,8 @@ impl<'a, R: Wait> SharedAccess<'a, R> {
         requires reached { IsReached (told_by self.old) name }
         ensures made { IsMade (call.get name result) (told_by self.old) (told_by self.new) }
         ensures ledger { self.new.ledger ≡ self.old.ledger }
+        ensures noted { NameMeets (told_by self.old).facts name (IsGot result)
+            (note_of self.old) (note_of self.new) }
     {
         for _ in self.rt.forever() {
             if let Some(got) = self.try_get(name) {
@@ -69,6 +78,8 @@ impl<'a, R: Wait> SharedAccess<'a, R> {
         requires { MayGet name (told_by self.old) }
         ensures made { IsMade (call.get name result) (told_by self.old) (told_by self.new) }
         ensures ledger { self.new.ledger ≡ self.old.ledger }
+        ensures noted { CallMeets (call.get name result) (told_by self.old)
+            (note_of self.old) (note_of self.new) }
     {
         let server = self.shared.book.server(name);
         if self.cut.has(server) {
@@ -82,6 +93,8 @@ impl<'a, R: Wait> SharedAccess<'a, R> {
         requires { MayLose name line (told_by self.old) }
         ensures made { IsMade (call.lose name line result) (told_by self.old) (told_by self.new) }
         ensures ledger { self.new.ledger ≡ self.old.ledger }
+        ensures noted { CallMeets (call.lose name line result) (told_by self.old)
+            (note_of self.old) (note_of self.new) }
     {
         for _ in self.rt.forever() {
             if let Some(yes) = self.try_lose(name, line) {
@@ -93,13 +106,27 @@ impl<'a, R: Wait> SharedAccess<'a, R> {
 }
 
 impl<'a, R: Wait> Fetch for SharedAccess<'a, R> {
-    fn get(&mut self, name: Name) -> Got {
+    fn get(&mut self, name: Name) -> Got
+        requires may { MayGet name (told_by self.old) }
+        requires room { 0 < room_in self.old }
+        ensures goes { Goes (call.get name result) (told_by self.old) (told_by self.new) }
+        ensures spare { room_in self.old ≤ room_in self.new + 1 }
+        ensures met { CallMeets (call.get name result) (told_by self.old)
+            (note_of self.old) (note_of self.new) }
+    {
         let got = self.got(name);
         enter_get(&mut self.ledger, name, &got);
         got
     }
 
-    fn lose(&mut self, name: Name, line: u32) -> bool {
+    fn lose(&mut self, name: Name, line: u32) -> bool
+        requires may { MayLose name line (told_by self.old) }
+        requires room { 0 < room_in self.old }
+        ensures goes { Goes (call.lose name line result) (told_by self.old) (told_by self.new) }
+        ensures spare { room_in self.old ≤ room_in self.new + 1 }
+        ensures met { CallMeets (call.lose name line result) (told_by self.old)
+            (note_of self.old) (note_of self.new) }
+    {
         let yes = self.lost(name, line);
         enter(&mut self.ledger, Op::Lose, name, Answer::changed(yes));
         yes

@@ -15,12 +15,13 @@
 //! ```
 //!
 //! *Proved.* `SharedAccess` is an access of one among any number of actors, over the table of
-//! `mf_gate`: each call's view and entry are those of its row by its answer, and of its calls only
-//! `get` and `lose` wait. `Shared::of_plain` begins from a file at rest, with a seat whose actor
-//! has seen all that the file holds, or hands the file back; `split` and `join` are the machine's;
-//! `finish` gives the seat back, with pins and right free. `into_plain` leaves a file at rest of
-//! the same book and bytes, for whose state the last seat's Made accounts, with the causes of its
-//! Mets.
+//! `mf_gate`: each call's view and entry are those of its row by its answer, which is the row's to
+//! the value that a step of this very call met (`CallMeets`); Away alone comes without a step. Of
+//! its calls only `get` and `lose` wait. `Shared::of_plain` begins from a file at rest, with a seat
+//! whose actor has seen all that the file holds, or hands the file back; `split` and `join` are the
+//! machine's; `finish` gives the seat back, with pins and right free. `into_plain` leaves a file at
+//! rest of the same book and bytes, for whose state the last seat's Made accounts, with the causes
+//! of its Mets.
 //!
 //! *Only tested.* A file handed to two actors and brought back.
 //!
@@ -38,6 +39,6 @@ mod seat;
 mod shared;
 
 pub use access::SharedAccess;
-pub use law::a_pin_waits_for_nobody;
+pub use law::{a_get_meets_its_word, a_pin_waits_for_nobody};
 pub use seat::Seat;
 pub use shared::Shared;

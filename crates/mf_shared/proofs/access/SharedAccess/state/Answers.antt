@@ -7,6 +7,7 @@ use Rattle.mf_places.specs.Servers.{IsIn}
 use Rattle.mf_vault.specs.Answers.{IsReached}
 use Rattle.mf_gate.specs.Passes.{about}
 use Rattle.mf_shared.specs.Whole.{told_by}
+use Rattle.mf_shared.proofs.Noting.{see_meets}
 use Rattle.mf_shared.proofs.Seen.{see_made}
 use Rattle.mf_shared.proofs.access.SharedAccess.state.Goals as goal
 
@@ -20,3 +21,9 @@ returns-clause-made g c = let s = c.args.self.now in let z = s.shared.now in let
     see_made z s.pass s.ledger.items s.cut y c.see.new.pass c.number-n.result c.see.ensures.row.0 c.see.result s.at.1
     same
     (subst (λ j. j < count_of (about z.gate).book) same low) reached c.see.ensures.row.1 c.see.ensures.row.2
+
+pub returns-clause-noted : goal.returns-clause-noted
+returns-clause-noted g c = let s = c.args.self.now in let row = c.see.ensures.row in
+    let same = c.number-n.ensures.value ∙ ap (λ (b : BookFacts). number_of b c.args.name) s.shared.now.book_is in
+    see_meets s.shared.now s.pass c.see.new.pass c.args.name c.number-n.result s.at.1 same row.0 c.see.result row.1
+    row.2

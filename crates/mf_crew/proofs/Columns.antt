@@ -1,5 +1,5 @@
 -- The views of all clients' actors of one file, and the actor that takes them in.
-use Rattle.std.proofs.Common.{◌≡◌, ℕ, zero, suc, ◌+◌, ◌<◌, List, [], ◌∷◌, ◌++◌, length, map, get_or, Some, refl, sym, ap}
+use Rattle.std.proofs.Common.{◌≡◌, ℕ, zero, suc, ◌+◌, ◌<◌, ◌≤◌, List, [], ◌∷◌, ◌++◌, length, map, get_or, Some, refl, sym, ap}
 use Rattle.std.proofs.Common.{◌∙◌, subst, arith}
 use Rattle.std.specs.Prelude.{slice_get}
 use Rattle.std.proofs.lemmas.List.{length-map, get_or-map}
@@ -7,11 +7,11 @@ use mathlib.Core.Option.{some, some-injective, some-ne-none}
 use lib.ListN.{get_elem?}
 use Rattle.mf_machine.specs.declared.view.Met.{Met}
 use Rattle.mf_machine.specs.declared.view.View.{View}
-use Rattle.mf_machine.specs.Counts.{times, total, all_begun}
+use Rattle.mf_machine.specs.Counts.{times, total, all_begun, all_opened}
 use Rattle.mf_machine.specs.Steps.{joined}
-use Rattle.mf_machine.specs.Sums.{publishings, begun_of}
+use Rattle.mf_machine.specs.Sums.{publishings, begun_of, opened_of}
 use Rattle.mf_machine.proofs.Lists.{times-append}
-use Rattle.mf_machine.proofs.Totals.{all_begun-append}
+use Rattle.mf_machine.proofs.Totals.{all_begun-append, all_opened-append}
 use Rattle.mf_lines.specs.Meaning.{Script}
 use Rattle.mf_vault.specs.Facts.{Facts, stages}
 use Rattle.mf_vault.specs.Actor.{Actor}
@@ -19,6 +19,7 @@ use Rattle.mf_plain.specs.Resting.{Resting}
 use Rattle.mf_shared.specs.Left.{LeftBy}
 use Rattle.mf_client.specs.Clients.{commands_of}
 use Rattle.mf_crew.specs.Live.{Ran, AllRan, AreLeft, share_of, new_actor, views_of, join_each, join_all}
+use Rattle.mf_crew.proofs.Closing.{closings_of, closed_joined}
 use Rattle.mf_crew.proofs.Joining.{join_length}
 use Rattle.mf_crew.proofs.Staying.{runs_shares}
 use Rattle.mf_crew.proofs.Tracing.{Trace, trace_from}
@@ -93,6 +94,20 @@ joins_begun v (w ∷ ws) =
     let r = joins_begun (joined v w) ws in
     let a = all_begun-append v.gone (w.own ∷ w.gone) in omega arith
 
+pub joins_opened : (g : ℕ) (v : View) (ws : List View)
+    → all_opened g (joins v ws).gone ≡ all_opened g v.gone + total (opened_of g) ws
+joins_opened g v [] = omega arith
+joins_opened g v (w ∷ ws) =
+    let r = joins_opened g (joined v w) ws in
+    let a = all_opened-append g v.gone (w.own ∷ w.gone) in omega arith
+
+pub joins_closed : (q : ℕ) (v : View) (ws : List View)
+    → closings_of q (joins v ws) ≡ closings_of q v + total (closings_of q) ws
+joins_closed q v [] = omega arith
+joins_closed q v (w ∷ ws) =
+    let r = joins_closed q (joined v w) ws in
+    let a = closed_joined q v.made.closings w.made.closings in omega arith
+
 at_front : (xs ys : List Met) (j : ℕ) (m : Met) → get_elem? xs j ≡ some m → get_elem? (xs ++ ys) j ≡ some m
 at_front [] ys j m at = absurd (some-ne-none m (sym at))
 at_front (x ∷ xs) ys zero m at = at
@@ -116,6 +131,19 @@ joins_met v (x ∷ ws) zero w at =
     subst (λ (z : View). (j : ℕ) × (get_elem? (joins v (x ∷ ws)).gone j ≡ some z.own)) same
     (length v.gone, joins_keep (joined v x) ws (length v.gone) x.own (at_seam v.gone x.gone x.own))
 joins_met v (x ∷ ws) (suc i) w at = joins_met (joined v x) ws i w at
+
+-- it has seen at least what each of them has seen
+first_seen : (v : View) (ws : List View) → v.seen.number ≤ (joins v ws).seen.number
+first_seen v [] = omega arith
+first_seen v (w ∷ ws) = let r = first_seen (joined v w) ws in omega arith
+
+pub joins_seen : (v : View) (ws : List View) (i : ℕ) (w : View) → get_elem? ws i ≡ some w
+    → w.seen.number ≤ (joins v ws).seen.number
+joins_seen v [] i w at = absurd (some-ne-none w (sym at))
+joins_seen v (x ∷ ws) zero w at =
+    let same = ap (λ (z : View). z.seen.number) (some-injective x w at) in
+    let r = first_seen (joined v x) ws in omega arith
+joins_seen v (x ∷ ws) (suc i) w at = joins_seen (joined v x) ws i w at
 
 -- ---- the clients' traces on file n, with these facts
 

@@ -14,11 +14,12 @@ use Rattle.mf_vault.specs.Facts.{Facts}
 use Rattle.mf_vault.specs.Actor.{Actor, Call}
 use Rattle.mf_vault.specs.Actor as call
 use Rattle.mf_vault.specs.Gains.{beside, publishes, sum_calls}
+use Rattle.mf_vault.proofs.Leaving.{AreOps}
 use Rattle.mf_convert.specs.declared.change.Change.{Change}
 use Rattle.mf_convert.specs.Create as create
 use Rattle.mf_convert.specs.Create.{first_names}
 use Rattle.mf_convert.specs.Convert.{IsCut, whole}
-use Rattle.mf_convert.proofs.Steady.{AreOps, whole_ops, cut_ops}
+use Rattle.mf_convert.proofs.Steady.{whole_ops, cut_ops}
 use Rattle.mf_read.specs.declared.outcome.ReadOutcome.{ReadOutcome}
 use Rattle.mf_read.specs.declared.outcome.ReadOutcome.TheVariants as read
 use Rattle.mf_read.specs.Asking.{Ask, here, gets}
@@ -44,7 +45,7 @@ abbrev pub absents : Call → ℕ
 absents (call.pin slot missed p) = finds_none p
 absents c = 0
 
--- ---- calls on chunks and closes say none of this
+-- ---- calls on chunks say none of this
 
 abbrev pub IsMute : Call → Type 0
 IsMute (call.probe x s) = Unit {0}
@@ -52,7 +53,6 @@ IsMute (call.put x) = Unit {0}
 IsMute (call.restore x) = Unit {0}
 IsMute (call.get x o) = Unit {0}
 IsMute (call.lose x l b) = Unit {0}
-IsMute (call.close g c) = Unit {0}
 IsMute (call.discard x b) = Unit {0}
 IsMute c = ⊥
 
@@ -78,7 +78,7 @@ mute_one f (call.get x (got.Lost l)) q = record { published = λ m. refl; begun 
 mute_one f (call.get x (got.Away s)) q = record { published = λ m. refl; begun = refl }
 mute_one f (call.get x got.Memory) q = record { published = λ m. refl; begun = refl }
 mute_one f (call.lose x l b) q = record { published = λ m. refl; begun = refl }
-mute_one f (call.close g c) q = record { published = λ m. refl; begun = refl }
+mute_one f (call.close g c) q = absurd q
 mute_one f (call.discard x b) q = record { published = λ m. refl; begun = refl }
 mute_one f (call.cut_off s) q = absurd q
 mute_one f (call.pin slot gs p) q = absurd q
@@ -228,9 +228,13 @@ repair_mute {f = f} {g = g} (repair.ended o j front last low are ends) =
     mute_append front last (all_mended_mute f g j front are) (end_mute ends)
 
 -- a reclaim
-pub closes_mute : (g : ℕ) (answers : List Closed) → AreMute (reclaim.closes g answers)
-closes_mute g [] = tt
-closes_mute g (c ∷ answers) = (tt, closes_mute (g + 1) answers)
+pub closes_silent : (f : Facts) (g : ℕ) (answers : List Closed) (rest : List Call) → Silent f rest
+    → Silent f (reclaim.closes g answers ++ rest)
+closes_silent f g [] rest s = s
+closes_silent f g (c ∷ answers) rest s = let r = closes_silent f (g + 1) answers rest s in record {
+  published = λ m. let a = r.published m in omega arith;
+  begun = let a = r.begun in omega arith;
+}
 
 pub discards_mute : (xs : List Name) (changed : List Bool) → AreMute (reclaim.discards xs changed)
 discards_mute [] changed = tt

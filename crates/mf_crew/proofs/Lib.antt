@@ -6,6 +6,8 @@ pub mod Staying
 pub mod Gathering
 pub mod Dealing
 pub mod Counting
+pub mod Closing
+pub mod Holding
 pub mod Telling
 pub mod Tracing
 pub mod Following

@@ -36,8 +36,8 @@ use Rattle.mf_client.specs.Acts.{Comes, Pins}
 use Rattle.mf_client.proofs.Went.{refused_reads}
 use Rattle.mf_crew.specs.Tales.{Tale, no_tale, change_tale, read_tale, repair_tale, reclaim_tale, outcome_tale}
 use Rattle.mf_crew.specs.Tales.{takes_right}
-use Rattle.mf_crew.proofs.Counting.{sum_append, absents, AreMute, mute_append, mute_all, whole_mute, cut_mute}
-use Rattle.mf_crew.proofs.Counting.{create_probes_mute, brings_mute, read_mute, repair_mute, closes_mute}
+use Rattle.mf_crew.proofs.Counting.{sum_append, absents, AreMute, mute_all, whole_mute, cut_mute}
+use Rattle.mf_crew.proofs.Counting.{create_probes_mute, brings_mute, read_mute, repair_mute, closes_silent, Silent}
 use Rattle.mf_crew.proofs.Counting.{discards_mute}
 
 -- calls say what a tale has; and they have a begin only where the right was taken
@@ -295,18 +295,19 @@ reclaim_fits took (reclaim.absent gs) = record {
   begun = λ low. absurd (omega arith);
 }
 reclaim_fits {f = f} took (reclaim.reclaimed first answers changed learns long) =
-    learnt first (closes 0 answers ++ discards (free_names f.book answers) changed) learns
-    (mute_append (closes 0 answers) (discards (free_names f.book answers) changed) (closes_mute 0 answers)
-    (discards_mute (free_names f.book answers) changed))
+    let last = discards (free_names f.book answers) changed in
+    let s = closes_silent f 0 answers last (mute_all f last (discards_mute (free_names f.book answers) changed)) in
+    let x = learnt first (closes 0 answers ++ last) learns s in
+    record { published = x.published; refused = x.refused; absent = x.absent; begun = x.begun }
   where
-    learnt : {n : ℕ} (first rest : List Call) → Learns f n first → AreMute rest → Fits f no_tale took (first ++ rest)
-    learnt first rest (reclaim.published gs g) q = let s = mute_all f rest q in record {
+    learnt : {n : ℕ} (first rest : List Call) → Learns f n first → Silent f rest → Fits f no_tale took (first ++ rest)
+    learnt first rest (reclaim.published gs g) s = record {
       published = λ m. let a = s.published m in omega arith;
       refused = omega arith;
       absent = omega arith;
       begun = λ low. let a = s.begun in absurd (omega arith);
     }
-    learnt first rest (reclaim.removed gs) q = let s = mute_all f rest q in record {
+    learnt first rest (reclaim.removed gs) s = record {
       published = λ m. let a = s.published m in omega arith;
       refused = omega arith;
       absent = omega arith;

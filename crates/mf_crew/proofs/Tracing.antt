@@ -19,20 +19,26 @@ use Rattle.mf_vault.specs.Actor as call
 use Rattle.mf_vault.specs.Gains.{beside, publishes}
 use Rattle.mf_vault.specs.Licence.{Does}
 use Rattle.mf_vault.proofs.Doing.{same, then, facts_stay}
+use Rattle.mf_vault.specs.Conditions.{IsIdle, Leaves}
+use Rattle.mf_vault.proofs.Leaving.{AreQuiet, quiet_all, stays_leaves}
 use Rattle.mf_convert.specs.declared.change.Change.{Change}
+use Rattle.mf_convert.proofs.Leaving.{converts_leaves}
 use Rattle.mf_convert.specs.declared.change.Change.TheVariants as change
 use Rattle.mf_client.specs.declared.done.Done.{Done}
 use Rattle.mf_client.specs.declared.done.Outcome.{Outcome}
 use Rattle.mf_client.specs.declared.done.Outcome.TheVariants as outcome
 use Rattle.mf_client.specs.declared.done.Part.{Part}
 use Rattle.mf_client.specs.declared.done.Place.{Place}
-use Rattle.mf_client.specs.Acts.{ActsBy, Comes, SweepsBy, LosesAll, IsLost, lists_on, cut_all, away_of, loses}
+use Rattle.mf_client.specs.Acts.{ActsBy, Comes, SweepsBy, LosesIn, LosesAll, IsLost, lists_on, cut_all, away_of, loses}
 use Rattle.mf_client.specs.OnFile.{OnFile}
 use Rattle.mf_client.specs.Runs.{RunsFrom, IsDone}
 use Rattle.mf_client.specs.Sweeps.{ConvertsInTurn, Visit, Visits, VisitsInTurn, IsSwept, parts_of, parts_in}
 use Rattle.mf_crew.specs.Tales.{Tale, no_tale, add_tale, change_tale, outcome_tale, parts_tale, tale_in, done_tale}
-use Rattle.mf_crew.specs.Tales.{takes_right, takes_in, takes}
+use Rattle.mf_crew.specs.Tales.{takes_right, takes_in, takes, hold_by, hold_in}
 use Rattle.mf_crew.proofs.Counting.{sum_append, absents, loses_mute}
+use Rattle.mf_crew.proofs.Closing.{converts_open, mute_open, open_does}
+use Rattle.mf_crew.proofs.Holding.{More, leaves_more, still_leaves, still_open, comes_more, change_names_none}
+use Rattle.mf_crew.proofs.Holding.{change_closes_none}
 use Rattle.mf_crew.proofs.Staying.{acts_shares, cut_shares}
 use Rattle.mf_crew.proofs.Telling.{Fits, mute_fits, convert_fits, Says, comes_say}
 
@@ -101,21 +107,26 @@ pub record Came (q n : ℕ) (file : Option ℕ) (o : Outcome) (parts : List Part
   pub calls : List Call
   pub does : Does calls a b
   pub fits : Fits a.facts (tale_in q n file o parts) (takes_in n file o) calls
+  pub more : More (hold_in n file o a.view.hold) (tale_in q n file o parts) a b
 
 came_here : (q n file : ℕ) (o : Outcome) (parts : List Part) {a b : Actor} → file ≡ n → Says q o a b
-    → Came q n (Some file) o parts a b
-came_here q n file o parts {a = a} e x = record {
+    → More (hold_by o a.view.hold) (outcome_tale q o) a b → Came q n (Some file) o parts a b
+came_here q n file o parts {a = a} {b = b} e x y = record {
   calls = x.calls;
   does = x.does;
+  more = subst (λ (z : Bool). More (cond z (hold_by o a.view.hold) a.view.hold) (cond z (outcome_tale q o) no_tale) a b)
+      (sym (eq-eqb file n e)) y;
   fits = subst (λ (z : Bool). Fits a.facts (cond z (outcome_tale q o) no_tale) (z && takes_right o) x.calls)
       (sym (eq-eqb file n e)) x.fits;
 }
 
 came_else : (q n file : ℕ) (o : Outcome) (parts : List Part) {a b : Actor} → file ≢ n → b ≡ a
     → Came q n (Some file) o parts a b
-came_else q n file o parts {a = a} ne e = record {
+came_else q n file o parts {a = a} {b = b} ne e = record {
   calls = [];
   does = same e;
+  more = subst (λ (z : Bool). More (cond z (hold_by o a.view.hold) a.view.hold) (cond z (outcome_tale q o) no_tale) a b)
+      (sym (ne_eqb file n ne)) (leaves_more (λ g m. refl) refl (still_leaves e) (still_open e));
   fits = subst (λ (z : Bool). Fits a.facts (cond z (outcome_tale q o) no_tale) (z && takes_right o) [])
       (sym (ne_eqb file n ne)) (mute_fits a.facts false [] tt);
 }
@@ -131,12 +142,24 @@ on_came q n file x o parts d before after on low e = dite (ℕ_discrete file n)
     ap (λ (l : List Actor). get_or l n d) (on.is ∙ ap (λ k. set before k on.new) here)
     ∙ set_here before n on.new d low in
     let says = comes_say q x o (ap (λ (a : Actor). stages a.facts) (sym was) ∙ e) on.goes in
+    let more = comes_more q x o on.goes in
     came_here q n file o parts here
-    (subst (λ (z : Actor). Says q o z (get_or after n d)) (sym was) (subst (Says q o on.old) (sym is) says)))
+    (subst (λ (z : Actor). Says q o z (get_or after n d)) (sym was) (subst (Says q o on.old) (sym is) says))
+    (subst (λ (z : Actor). More (hold_by o z.view.hold) (outcome_tale q o) z (get_or after n d)) (sym was)
+    (subst (More (hold_by o on.old.view.hold) (outcome_tale q o) on.old) (sym is) more)))
     (λ ne. came_else q n file o parts ne
     (ap (λ (l : List Actor). get_or l n d) on.is ∙ set_else before file n on.new d ne))
 
 -- ---- a server that is emptied
+
+quiet_loses : (line : ℕ) (xs : List Name) (answers : List Bool) → AreQuiet (loses line xs answers)
+quiet_loses line [] answers = tt
+quiet_loses line (x ∷ xs) [] = tt
+quiet_loses line (x ∷ xs) (b ∷ answers) = (tt, quiet_loses line xs answers)
+
+loses_leaves : (line : ℕ) (names : List Name) {k : ℕ} {a b : Actor} → LosesIn line names k a b → IsIdle a → Leaves a b
+loses_leaves line names {a = a} x idle = subst (Leaves a) (sym x.does.becomes)
+    (stays_leaves idle (quiet_all (loses line names x.answers) a (quiet_loses line names x.answers)))
 
 lost_came : (q n line : ℕ) (o : Outcome) (lists : List (List Name)) (k : ℕ) (d : Actor) (before after : List Actor)
     → LosesAll line lists k before after → n < length before
@@ -150,10 +173,12 @@ lost_came q zero line o (names ∷ lists) k d (a ∷ before) (b ∷ after) (m, r
   calls = loses line names one.answers;
   does = one.does;
   fits = mute_fits a.facts (takes_right o) (loses line names one.answers) (loses_mute line names one.answers);
+  more = leaves_more (λ g m. refl) refl (loses_leaves line names one)
+      (open_does one.does (mute_open (loses line names one.answers) (loses_mute line names one.answers)));
 }
 lost_came q (suc n) line o (names ∷ lists) k d (a ∷ before) (b ∷ after) (m, r, e, one, others) low =
     let came = lost_came q n line o lists r d before after others (omega (arith, low)) in
-    record { calls = came.calls; does = came.does; fits = came.fits }
+    record { calls = came.calls; does = came.does; fits = came.fits; more = came.more }
 
 none_came : (q n : ℕ) (o : Outcome) (d : Actor) (before after : List Actor) → after ≡ before
     → Came q n None o [] (get_or before n d) (get_or after n d)
@@ -161,6 +186,8 @@ none_came q n o d before after e = record {
   calls = [];
   does = same (ap (λ (l : List Actor). get_or l n d) e);
   fits = mute_fits (get_or before n d).facts (takes_right o) [] tt;
+  more = leaves_more (λ g m. refl) refl (still_leaves (ap (λ (l : List Actor). get_or l n d) e))
+      (still_open (ap (λ (l : List Actor). get_or l n d) e));
 }
 
 loses_came : (q n server line : ℕ) (o : Outcome) (d : Actor) (before after : List Actor)
@@ -183,9 +210,18 @@ record Turned (t : Tale) (a b : Actor) : Type 0 where
   calls : List Call
   does : Does calls a b
   fits : Fits a.facts t true calls
+  leaves : IsIdle a → Leaves a b
+  keeps : b.view.made.closings ≡ a.view.made.closings
 
 turned_same : {a b : Actor} → b ≡ a → Turned no_tale a b
-turned_same {a = a} e = record { calls = []; does = same e; fits = mute_fits a.facts true [] tt }
+turned_same {a = a} e =
+    record {
+      calls = [];
+      does = same e;
+      fits = mute_fits a.facts true [] tt;
+      leaves = still_leaves e;
+      keeps = still_open e;
+    }
 
 turned_then : {t u : Tale} {a b c : Actor} → Turned t a b → Turned u b c → Turned (add_tale t u) a c
 turned_then {u = u} {a = a} x y = record {
@@ -193,13 +229,24 @@ turned_then {u = u} {a = a} x y = record {
   does = then x.does y.does;
   fits = fits_both x.calls y.calls x.fits
       (subst (λ (f : Facts). Fits f u true y.calls) (facts_stay x.does) y.fits);
+  leaves = λ idle.
+      let p = x.leaves idle in
+      let q = y.leaves p.idle in
+      record { idle = q.idle; facts = q.facts ∙ p.facts; hold = q.hold ∙ p.hold; cut = q.cut ∙ p.cut };
+  keeps = y.keeps ∙ x.keeps;
 }
 
 turn_tells : (q upto : ℕ) (cs : List Change) (a b : Actor) → ConvertsInTurn upto cs a b
     → Turned (changes_tale q cs) a b
 turn_tells q upto [] a b x = turned_same x
 turn_tells q upto (c ∷ cs) a b (mid, one, rest) =
-    turned_then (record { calls = one.calls; does = one.does; fits = took_on (convert_fits q one.licence) })
+    turned_then (record {
+      calls = one.calls;
+      does = one.does;
+      fits = took_on (convert_fits q one.licence);
+      leaves = converts_leaves one;
+      keeps = converts_open one;
+    })
     (turn_tells q upto cs mid b rest)
 
 -- what visits tell of the file with number n
@@ -301,6 +348,27 @@ visits_under q n [] = record { published = λ m. refl; refused = omega arith; ab
 visits_under q n (v ∷ vs) = under_on (parts_append q n (parts_of v.file v.changes) (parts_in vs))
     (under_add (changes_under q n v.file v.changes) (visits_under q n vs))
 
+-- and name no refused close
+parts_name_none : (q n : ℕ) (parts : List Part) (g m : ℕ) → (parts_tale q n parts).pinned g m ≡ 0
+parts_name_none q n [] g m = refl
+parts_name_none q n (p ∷ parts) g m =
+    let r = parts_name_none q n parts g m in
+    let one = either (p.file == n) in omega arith
+  where
+    either : (b : Bool) → (cond b (change_tale q p.change) no_tale).pinned g m ≡ 0
+    either true = change_names_none q p.change g m
+    either false = refl
+
+parts_close_none : (q n : ℕ) (parts : List Part) → (parts_tale q n parts).closed ≡ 0
+parts_close_none q n [] = refl
+parts_close_none q n (p ∷ parts) =
+    let r = parts_close_none q n parts in
+    let one = either (p.file == n) in omega arith
+  where
+    either : (b : Bool) → (cond b (change_tale q p.change) no_tale).closed ≡ 0
+    either true = change_closes_none q p.change
+    either false = refl
+
 swept_came : (q n : ℕ) (thresholds : List ℕ) (o : Outcome) (parts : List Part) (d : Actor) (before after : List Actor)
     → IsSwept thresholds o parts before after → n < length before
     → Came q n None o parts (get_or before n d) (get_or after n d)
@@ -310,6 +378,7 @@ swept_came q n thresholds (outcome.Swept k) parts d before after x low =
       does = t.does;
       fits = subst (λ (l : List Part). Fits (get_or before n d).facts (parts_tale q n l) true t.calls) (sym x.told)
           (under_fits (visits_under q n x.visits) t.fits);
+      more = leaves_more (parts_name_none q n parts) (parts_close_none q n parts) t.leaves t.keeps;
     }
 swept_came q n thresholds outcome.Memory parts d before after x low =
     subst (λ (l : List Part). Came q n None outcome.Memory l (get_or before n d) (get_or after n d)) (sym x.0)
@@ -343,6 +412,7 @@ pub record Step (q n : ℕ) (x : Done) (a b : Actor) : Type 0 where
   pub calls : List Call
   pub does : Does calls (did (call.cut_off away) a) b
   pub fits : Fits a.facts (done_tale q n x) (takes n x) calls
+  pub more : More (hold_in n (file_in x.act) x.outcome a.view.hold) (done_tale q n x) (did (call.cut_off away) a) b
 
 -- so did commands in turn
 abbrev pub Trace : (q n : ℕ) → List Done → Actor → Actor → Type 0
@@ -370,9 +440,13 @@ done_step s q n c x d before after is low e =
       fits = subst (λ (y : Act). Fits (get_or before n d).facts (tale y) (took y) came.calls) (sym is.act)
           (subst (λ (f : Facts). Fits f (tale c.act) (took c.act) came.calls)
           (ap (λ (a : Actor). a.facts) at) came.fits);
+      more = subst (λ (y : Act). More (hold_in n (file_in y) x.outcome (get_or before n d).view.hold) (tale y)
+          (did (call.cut_off away) (get_or before n d)) (get_or after n d)) (sym is.act)
+          (subst (λ (z : Actor). More (hold_in n (file_in c.act) x.outcome z.view.hold) (tale c.act) z (get_or after n d))
+          at came.more);
     }
 
-step_facts : {q n : ℕ} {x : Done} {a b : Actor} → Step q n x a b → b.facts ≡ a.facts
+pub step_facts : {q n : ℕ} {x : Done} {a b : Actor} → Step q n x a b → b.facts ≡ a.facts
 step_facts s = facts_stay s.does
 
 -- as many actors as before

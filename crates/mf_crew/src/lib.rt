@@ -19,6 +19,9 @@
 //! order of clients; and each file behind the phase is that for which all clients' Mades account,
 //! with the causes of all their Mets.
 //!
+//! `clients_tell`: the outcomes of several clients agree with each other and with the file behind
+//! the phase. `files_rest`: the files behind each phase are at rest.
+//!
 //! *Only tested.* Clients that wait for each other.
 //!
 //! *Neither.* That two clients ran at once, waiting, progress and speed.

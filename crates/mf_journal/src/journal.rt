@@ -119,6 +119,8 @@ impl<D: Disk> Journal<D> {
         ensures cause { IfErr result (λ e. e.1 ≡ open_fault.Disk
             → (D.log disk).faults < (D.log e.0).faults) }
 
+        ensures whole { IfOk result (λ r. is_broken r.0 ≡ false) }
+
         // A fault of the bytes is answered wherever there is one, unless the disk or memory failed.
         ensures faultless { OnOk result ((fault : OpenFault) → HasFault fault (D.reads disk) → ⊥) }
         ensures exactly { IfErr result (λ e. (fault : OpenFault) → HasFault fault (D.reads disk)

@@ -2,11 +2,10 @@
 use Rattle.std.proofs.Common.{◌≡◌, ℕ, suc, ◌+◌, ◌^◌, ◌<◌, ◌≤◌, Bool, List, [], ◌∷◌, ◌++◌, length}
 use Rattle.std.proofs.Common.{get_or, take, refl, sym, ap, ◌∙◌, subst, arith, All, Option}
 use Rattle.std.proofs.Common.{IfSome, inl, inr, ◌*◌, Some, None}
-use Rattle.mf_client.proofs.Dues.{are_low, few_due}
+use Rattle.mf_client.proofs.Dues.{IsFew, are_low, few_due, few_policies}
 use Rattle.std.proofs.lemmas.Bool.{cases_lt}
 use Rattle.std.proofs.lemmas.List.{length-map, get_or-map}
 use Rattle.std.proofs.lemmas.Option.{slice_get_within, get_or_from_slice_get, slice_get-get_or}
-use Rattle.std.specs.Prelude.{is_some}
 use Rattle.std.proofs.lemmas.List.Elements.{All-head, All-tail, All-cons, All-nil, All-set, All-push}
 use Rattle.std.proofs.Math.Seq.{take-suc}
 use Rattle.mf_machine.specs.File.{listed}
@@ -18,7 +17,9 @@ use Rattle.mf_lines.specs.declared.parts.Command.{Command}
 use Rattle.mf_lines.specs.declared.parts.FileLine.{FileLine}
 use Rattle.mf_lines.specs.Meaning.{Script, file_in}
 use Rattle.mf_script.specs.Losses.{losses_of}
+use Rattle.mf_script.specs.Families.{file_code, file_policies}
 use Rattle.mf_script.specs.Sound.{IsSound}
+use Rattle.mf_script.proofs.FamilyLemmas.{families_fit, files_belong}
 use Rattle.mf_vault.specs.declared.answers.Entry.{Entry}
 use Rattle.mf_vault.specs.declared.io.Io.{Io}
 use Rattle.mf_vault.specs.Facts.{Facts, lines}
@@ -34,13 +35,12 @@ use Rattle.mf_client.specs.declared.done.Outcome.TheVariants as outcome
 use Rattle.mf_client.specs.declared.done.Part.{Part}
 use Rattle.mf_client.specs.OnFile.{OnFile}
 use Rattle.mf_client.specs.Sweeps.{Visit, IsSwept, ages_in}
-use Rattle.mf_client.specs.Acts.{Acts, SweepsBy, loses, LosesIn, LosesAll, IsLost, lists_on, away_of, cut_all}
-use Rattle.mf_client.specs.Clients.{facts_in, commands_of, family_of, AreFiles, HasClient}
+use Rattle.mf_client.specs.Acts.{Acts, loses, LosesIn, LosesAll, IsLost, lists_on, away_of, cut_all}
+use Rattle.mf_client.specs.Clients.{facts_in, commands_of, AreFiles, HasClient}
 use Rattle.mf_client.specs.Runs.{gained, io_gained, IsSmall, IsDone, RunsFrom}
 use Rattle.mf_client.specs.Acts.{Comes, ActsBy}
-use Rattle.mf_client.specs.Steps.{IsRunning, IsLine, Finds, AreOfFamily}
-use Rattle.mf_lines.specs.Keeps.{IsPolicied}
-use Rattle.mf_client.proofs.Known.{command_knows, has_policy}
+use Rattle.mf_client.specs.Steps.{IsRunning, IsLine, Finds, AreOfFamilies}
+use Rattle.mf_client.proofs.Known.{command_knows}
 use Rattle.mf_client.proofs.Listing.{lose_listed}
 use Rattle.mf_vault.proofs.Leaving.{Stays, quiet_all, AreQuiet}
 use Rattle.mf_client.proofs.Numbered.{io_set, io_cut, plus_none, facts_cut, idle_cut, IsFiled, filed, filed_cut}
@@ -191,54 +191,43 @@ below_small x n top b =
       drops = omega arith;
     }
 
-swept_left : (thresholds : List ℕ) (o : Outcome) (parts : List Part) (before after : List Actor)
-    → length thresholds ≤ 4 → length before ≤ 128 → All IsFiled before → All IsIdle before
-    → IsSwept thresholds o parts before after → Left before after
-swept_left thresholds (outcome.Swept n) parts before after few most kept idle x =
-    let low = are_low x.visits thresholds (ages_in before) x.due few in
+swept_left : (policies : List (Option (List ℕ))) (o : Outcome) (parts : List Part) (before after : List Actor)
+    → All IsFew policies → length before ≤ 128 → All IsFiled before → All IsIdle before
+    → IsSwept policies o parts before after → Left before after
+swept_left policies (outcome.Swept n) parts before after few most kept idle x =
+    let low = are_low x.visits policies (ages_in before) x.due few in
     let r = visits_pass x.visits before after low idle kept x.turn in
-    let due = few_due thresholds before in
+    let due = few_due policies before in
     let long = sym (length-map x.visits (λ (v : Visit). (v.file, v.due))) ∙ ap length x.due in
     record {
       idle = r.idle;
       facts = r.facts;
       small = below_small (io_gained before after) (length x.visits * 7920020) (omega arith) r.low;
     }
-swept_left thresholds outcome.Memory parts before after few most kept idle x = record {
+swept_left policies outcome.Memory parts before after few most kept idle x = record {
   idle = subst (All IsIdle) (sym x.1) idle;
   facts = ap facts_in x.1;
   small = subst IsSmall (sym (ap (io_gained before) x.1 ∙ Rattle.mf_client.proofs.Numbered.io_same before))
       nothing_small;
 }
-swept_left thresholds other parts before after few most kept idle x = absurd x
+swept_left policies other parts before after few most kept idle x = absurd x
 
--- a policy has at most 4 thresholds
-abbrev pub IsFewPolicy : Option (List ℕ) → Type 0
-IsFewPolicy policy = IfSome policy (λ thresholds. length thresholds ≤ 4)
-
-sweeps_left : (policy : Option (List ℕ)) (o : Outcome) (parts : List Part) (before after : List Actor)
-    → IsFewPolicy policy → length before ≤ 128 → All IsFiled before → All IsIdle before
-    → SweepsBy policy o parts before after → Left before after
-sweeps_left None o parts before after few most kept idle x = absurd x
-sweeps_left (Some thresholds) o parts before after few most kept idle x =
-    swept_left thresholds o parts before after few most kept idle x
-
-left_by : (f : Option ℕ) (policy : Option (List ℕ)) (line : ℕ) (x : Act) (o : Outcome) (parts : List Part)
-    (before after : List Actor) → IsFewPolicy policy → length before ≤ 128 → All IsFiled before
-    → All IsIdle before → ActsBy f policy line x o parts before after → Left before after
-left_by (Some file) policy line x o parts before after few most kept idle h =
+left_by : (f : Option ℕ) (policies : List (Option (List ℕ))) (line : ℕ) (x : Act) (o : Outcome) (parts : List Part)
+    (before after : List Actor) → All IsFew policies → length before ≤ 128 → All IsFiled before
+    → All IsIdle before → ActsBy f policies line x o parts before after → Left before after
+left_by (Some file) policies line x o parts before after few most kept idle h =
     on_left x o file before after kept idle h.1
-left_by None policy line (act.Lose server) o parts before after few most kept idle h =
+left_by None policies line (act.Lose server) o parts before after few most kept idle h =
     lost_left server line o before after idle h.1
-left_by None policy line act.Sweep o parts before after few most kept idle h =
-    sweeps_left policy o parts before after few most kept idle h
-left_by None policy line other o parts before after few most kept idle h = absurd h
+left_by None policies line act.Sweep o parts before after few most kept idle h =
+    swept_left policies o parts before after few most kept idle h
+left_by None policies line other o parts before after few most kept idle h = absurd h
 
-acts_left : (policy : Option (List ℕ)) (line : ℕ) (x : Act) (o : Outcome) (parts : List Part)
-    (before after : List Actor) → IsFewPolicy policy → length before ≤ 128 → All IsFiled before
-    → All IsIdle before → Acts policy line x o parts before after → Left before after
-acts_left policy line x o parts before after few most kept idle h =
-    left_by (file_in x) policy line x o parts before after few most kept idle h
+acts_left : (policies : List (Option (List ℕ))) (line : ℕ) (x : Act) (o : Outcome) (parts : List Part)
+    (before after : List Actor) → All IsFew policies → length before ≤ 128 → All IsFiled before
+    → All IsIdle before → Acts policies line x o parts before after → Left before after
+acts_left policies line x o parts before after few most kept idle h =
+    left_by (file_in x) policies line x o parts before after few most kept idle h
 
 -- ---- a client on its way
 
@@ -277,7 +266,7 @@ runs_push s phase client n (k ∷ commands) c (e ∷ done) d before mid after (n
 
 pub running_more : (s : Script) (phase client i : ℕ) (start now after : List Actor) (done items : List Done)
     (d : Command) (next : Done) → IsRunning s phase client i start done now → All IsKept now
-    → IsFewPolicy s.policy → length now ≤ 128
+    → All IsFew (file_policies s) → length now ≤ 128
     → i < length (commands_of s phase client)
     → IsDone s (record { phase = phase; client = client; command = i + 1 }) (get_or (commands_of s phase client) i
     d) next
@@ -287,7 +276,7 @@ running_more s phase client i start now after done items d next x kept few most 
     let c = get_or commands i d in
     let cut = cut_all (away_of c.act) now in
     let many = length-map now (did (cut_off (away_of c.act))) in
-    let left = acts_left s.policy c.line c.act next.outcome next.parts cut after few (omega arith)
+    let left = acts_left (file_policies s) c.line c.act next.outcome next.parts cut after few (omega arith)
     (filed_cut (away_of c.act) now (filed now kept))
     (idle_cut (away_of c.act) now x.idle) one.acts in
     let more : suc i ≡ i + 1 = omega arith in
@@ -368,36 +357,26 @@ finds_there s phase client i start now d is has files kept idle same low =
       few = few_files now s phase kept here;
       file = λ n e. subst (λ (o : Option ℕ). IfSome o (λ file. file < length s.files)) e
           (command_knows s phase client i d is low).0;
-      policy = λ e. has_policy s is
-          (subst (IsPolicied s.policy) e (command_knows s phase client i d is low).1);
       lines = λ server e. lines_all c.line server (losses_of s phase) (facts_in now)
           (losses_same s phase (facts_in now) here) (lose_listed s phase client i server d has low e);
     }
 
-pub few_policy : (s : Script) → IsSound s → IsFewPolicy s.policy
-few_policy s is = by_policy s.policy refl
-  where
-    by_policy : (policy : Option (List ℕ)) → s.policy ≡ policy → IsFewPolicy policy
-    by_policy None e = tt
-    by_policy (Some thresholds) e =
-        let has = has_policy s is (ap is_some e) in
-        let few = has.few in
-        let same : thresholds ≡ has.thresholds = let z : Some thresholds ≡ Some has.thresholds = sym e ∙ has.is in cc in
-        let long = ap length same in omega arith
+pub few_policy : (s : Script) → IsSound s → All IsFew (file_policies s)
+few_policy s is = few_policies s (families_fit s is) (files_belong s is.one)
 
-pub family_all : (s : Script) (phase : ℕ) (xs : List Actor) → AreFiles s phase (facts_in xs)
-    → AreOfFamily (family_of s).shape (family_of s).points xs
-family_all s phase xs files k d low = by_line s.files refl
+pub families_all : (s : Script) (phase : ℕ) (xs : List Actor) → AreFiles s phase (facts_in xs) → AreOfFamilies s xs
+families_all s phase xs files = record { count = sym long ∙ files.count; each = λ k d low. by_line k d low s.files refl }
   where
-    by_line : (ls : List FileLine) → ls ≡ s.files
-        → IsOfFamily (family_of s).shape (family_of s).points (get_or xs k d).facts.book
-    by_line [] e = absurd
-        (let n = ap length e in let m = files.count in let o = length-map xs (λ (a : Actor). a.facts) in
-        omega arith)
-    by_line (l ∷ ls) e =
+    long : length (facts_in xs) ≡ length xs
+    long = length-map xs (λ (a : Actor). a.facts)
+
+    by_line : (k : ℕ) (d : Actor) → k < length xs → (ls : List FileLine) → ls ≡ s.files
+        → IsOfFamily (file_code s k).shape (file_code s k).points (get_or xs k d).facts.book
+    by_line k d low [] e = absurd (let n = ap length e in let m = files.count in omega (arith, long))
+    by_line k d low (l ∷ ls) e =
         let m = files.count in
-        let o = length-map xs (λ (a : Actor). a.facts) in
         let is = files.each k (get_or s.files k l) (get_or (facts_in xs) k d.facts)
-        (slice_get-get_or s.files k l (omega arith)) (slice_get-get_or (facts_in xs) k d.facts (omega arith)) in
-        subst (λ (f : Facts). IsOfFamily (family_of s).shape (family_of s).points f.book)
+        (slice_get-get_or s.files k l (omega (arith, long)))
+        (slice_get-get_or (facts_in xs) k d.facts (omega (arith, long))) in
+        subst (λ (f : Facts). IsOfFamily (file_code s k).shape (file_code s k).points f.book)
         (get_or-map (λ (a : Actor). a.facts) xs k d d.facts low) is.family

@@ -1,23 +1,26 @@
 -- The files of a sweep that are due.
 use Rattle.std.proofs.Common.{◌≡◌, ℕ, zero, suc, ◌+◌, ◌*◌, ◌<◌, ◌≤◌, Bool, not, eqb, List, [], ◌∷◌, ◌++◌}
 use Rattle.std.proofs.Common.{length, map, take, get_or, All, inl, inr, refl, sym, ap, ◌∙◌, subst, arith}
+use Rattle.std.proofs.Common.{Option, Some, None, IfSome}
 use Rattle.std.specs.List.{range_with_len}
 use Rattle.std.proofs.lemmas.Bool.{cases_Bool, cond-true, cond-false}
 use Rattle.std.proofs.lemmas.List.{length-map, get_or-map, length-take, map-append, take_more}
 use Rattle.std.proofs.lemmas.List.FromFn.{length-map-range_with_len, length-range_with_len, get_or-range_with_len}
 use Rattle.std.proofs.lemmas.List.Sums.{length-filter, count_by-le-length}
 use Rattle.std.proofs.lemmas.List.Elements.{All-head, All-tail, All-filter, All-map, All-take}
-use Rattle.mf_policy.specs.Policies.{IsPolicy}
-use Rattle.mf_policy.specs.Due.{greatest, has_reached, due_file, sweep_of}
-use Rattle.mf_policy.proofs.Greatest.{is_due}
+use Rattle.mf_policy.specs.Due.{greatest, has_reached, due_by, due_file, sweep_of}
+use Rattle.mf_policy.proofs.Greatest.{due_within}
 use Rattle.mf_shape.specs.Chain.{Chain}
+use Rattle.mf_lines.specs.Meaning.{Script}
+use Rattle.mf_script.specs.Families.{block_at, policies_in, policy_at, family_of, file_code, file_policies}
+use Rattle.mf_script.specs.Families.{FamiliesFit, FilesBelong}
 use Rattle.mf_vault.specs.Facts.{Facts, age, stages}
 use Rattle.mf_vault.specs.Actor.{Actor}
 use Rattle.mf_vault.specs.Conditions.{IsIdle, IsOfFamily}
 use Rattle.mf_client.specs.declared.done.Part.{Part}
 use Rattle.mf_client.specs.Clients.{facts_in}
 use Rattle.mf_client.specs.Sweeps.{Visit, ages_in, dues_of}
-use Rattle.mf_client.specs.Steps.{AreDue, AreOfFamily, VisitedAll}
+use Rattle.mf_client.specs.Steps.{AreDue, IsDueOf, AreOfFamilies, VisitedAll}
 use Rattle.mf_client.proofs.Numbered.{IsFiled}
 use Rattle.mf_client.proofs.Visiting.{AreLow, Passed, visits_pass}
 
@@ -34,14 +37,27 @@ greatest_low p (suc n) =
 abbrev LowDues : List (ℕ × ℕ) → Type 0
 LowDues dues = All (λ (d : ℕ × ℕ). d.1 ≤ 4) dues
 
-due_low : (thresholds ages : List ℕ) → length thresholds ≤ 4 → LowDues (sweep_of thresholds ages)
-due_low thresholds ages few =
+-- a policy has at most 4 thresholds, where there is one
+abbrev pub IsFew : Option (List ℕ) → Type 0
+IsFew policy = IfSome policy (λ thresholds. length thresholds ≤ 4)
+
+few_at : (policies : List (Option (List ℕ))) (k : ℕ) → All IsFew policies → IsFew (get_or policies k None)
+few_at [] k few = tt
+few_at (p ∷ policies) zero few = All-head IsFew p policies few
+few_at (p ∷ policies) (suc k) few = few_at policies k (All-tail IsFew p policies few)
+
+low_by : (policy : Option (List ℕ)) (age : ℕ) → IsFew policy → due_by policy age ≤ 4
+low_by None age few = omega arith
+low_by (Some thresholds) age few =
+    let most = greatest_low (has_reached thresholds age) (length thresholds) in omega arith
+
+due_low : (policies : List (Option (List ℕ))) (ages : List ℕ) → All IsFew policies → LowDues (sweep_of policies ages)
+due_low policies ages few =
     let files = range_with_len 0 (length ages) in
-    All-filter (λ (d : ℕ × ℕ). not (eqb d.1 0)) (λ (d : ℕ × ℕ). d.1 ≤ 4) (map (due_file thresholds ages) files)
-    (All-map (λ (d : ℕ × ℕ). d.1 ≤ 4) (due_file thresholds ages) files
-    (λ k d low. let most = greatest_low (has_reached thresholds (get_or ages (get_or files k d) 0)) (length thresholds)
-    in
-    omega arith))
+    All-filter (λ (d : ℕ × ℕ). not (eqb d.1 0)) (λ (d : ℕ × ℕ). d.1 ≤ 4) (map (due_file policies ages) files)
+    (All-map (λ (d : ℕ × ℕ). d.1 ≤ 4) (due_file policies ages) files
+    (λ k d low. let file = get_or files k d in
+    low_by (get_or policies file None) (get_or ages file 0) (few_at policies file few)))
 
 low_visits : (visits : List Visit) (dues : List (ℕ × ℕ)) → dues_of visits ≡ dues → LowDues dues → AreLow visits
 low_visits [] dues e all = tt
@@ -52,46 +68,76 @@ low_visits (v ∷ visits) dues e all =
           (All-tail (λ (d : ℕ × ℕ). d.1 ≤ 4) (v.file, v.due) (dues_of visits) here),
     )
 
-pub are_low : (visits : List Visit) (thresholds ages : List ℕ) → dues_of visits ≡ sweep_of thresholds ages
-    → length thresholds ≤ 4 → AreLow visits
-are_low visits thresholds ages e few = low_visits visits (sweep_of thresholds ages) e (due_low thresholds ages few)
+pub are_low : (visits : List Visit) (policies : List (Option (List ℕ))) (ages : List ℕ)
+    → dues_of visits ≡ sweep_of policies ages → All IsFew policies → AreLow visits
+are_low visits policies ages e few = low_visits visits (sweep_of policies ages) e (due_low policies ages few)
 
-pub visits_low : (visits : List Visit) (dues : List (ℕ × ℕ)) (files most : ℕ) → dues_of visits ≡ dues
-    → AreDue files most dues → most ≤ 4 → AreLow visits
-visits_low visits dues files most e all few =
-    low_visits visits dues e (λ k d low. let x = (all k d low).1 in omega arith)
+pub visits_low : (s : Script) (visits : List Visit) (dues : List (ℕ × ℕ)) → dues_of visits ≡ dues → AreDue s dues
+    → AreLow visits
+visits_low s visits dues e all = low_visits visits dues e (λ k d low. let few = (all k d low).few in omega arith)
 
-pub few_due : (thresholds : List ℕ) (actors : List Actor)
-    → length (sweep_of thresholds (ages_in actors)) ≤ length actors
-few_due thresholds actors =
+pub few_due : (policies : List (Option (List ℕ))) (actors : List Actor)
+    → length (sweep_of policies (ages_in actors)) ≤ length actors
+few_due policies actors =
     let ages = ages_in actors in
-    let all = map (due_file thresholds ages) (range_with_len 0 (length ages)) in
+    let all = map (due_file policies ages) (range_with_len 0 (length ages)) in
     let due = λ (d : ℕ × ℕ). not (eqb d.1 0) in
     let kept = length-filter due all in
     let low = count_by-le-length due all in
-    let many = length-map-range_with_len (due_file thresholds ages) 0 (length ages) in
+    let many = length-map-range_with_len (due_file policies ages) 0 (length ages) in
     let same = length-map actors (λ (a : Actor). age a.facts) in omega arith
 
-pub all_due : (thresholds : List ℕ) (actors : List Actor) → IsPolicy thresholds
-    → AreDue (length actors) (length thresholds) (sweep_of thresholds (ages_in actors))
-all_due thresholds actors policy =
+-- ---- by the families of the files
+
+-- a policy that fits its family, where there is one
+fewer : (policy : Option (List ℕ)) (n : ℕ) → n ≤ 4 → IfSome policy (λ thresholds. length thresholds ≡ n) → IsFew policy
+fewer None n few fits = tt
+fewer (Some thresholds) n few fits = omega arith
+
+due_fits : (policy : Option (List ℕ)) (age stages : ℕ) → 0 < stages
+    → IfSome policy (λ thresholds. length thresholds ≡ stages) → due_by policy age < stages
+due_fits None age stages some fits = some
+due_fits (Some thresholds) age stages some fits = let low = due_within thresholds age (omega arith) in omega arith
+
+pub few_policies : (s : Script) → FamiliesFit s → FilesBelong s → All IsFew (file_policies s)
+few_policies s fit belong =
+    All-map IsFew (λ family. get_or (policies_in s) family None) s.file_families
+    (λ k d low. let i = get_or s.file_families k d in let here = fit i (belong.each k d low) in
+    fewer (policy_at s i) (length (block_at s i).stages) here.few here.policy)
+
+due_of_file : (s : Script) (age file : ℕ) → FamiliesFit s → FilesBelong s → file < length s.files
+    → IsDueOf s (file, due_by (get_or (file_policies s) file None) age)
+due_of_file s age file fit belong low =
+    let count = belong.count in
+    let i = family_of s file in
+    let here = fit i (belong.each file 0 (omega arith)) in
+    let stages = length (block_at s i).stages in
+    let is : get_or (file_policies s) file None ≡ policy_at s i =
+    get_or-map (λ family. get_or (policies_in s) family None) s.file_families file 0 None (omega arith) in
+    let stage : due_by (get_or (file_policies s) file None) age < stages =
+    subst (λ p. due_by p age < stages) (sym is) (due_fits (policy_at s i) age stages here.some here.policy) in
+    let few = here.few in
+    record { file = low; stage = stage; few = omega arith }
+
+pub all_due : (s : Script) (actors : List Actor) → FamiliesFit s → FilesBelong s → length actors ≡ length s.files
+    → AreDue s (sweep_of (file_policies s) (ages_in actors))
+all_due s actors fit belong count =
     let ages = ages_in actors in
+    let policies = file_policies s in
     let files = range_with_len 0 (length ages) in
-    let P : ℕ × ℕ → Type 0 = λ d. (d.0 < length actors) × (d.1 < length thresholds) in
-    All-filter (λ (d : ℕ × ℕ). not (eqb d.1 0)) P (map (due_file thresholds ages) files)
-    (All-map P (due_file thresholds ages) files
-    (λ k d low. (
-      let n = length-range_with_len 0 (length ages) in
-          let at = get_or-range_with_len 0 (length ages) k d (omega arith) in
-          let same = length-map actors (λ (a : Actor). age a.facts) in omega arith,
-      (is_due thresholds (get_or ages (get_or files k d) 0) policy).stage,
-    )))
+    All-filter (λ (d : ℕ × ℕ). not (eqb d.1 0)) (IsDueOf s) (map (due_file policies ages) files)
+    (All-map (IsDueOf s) (due_file policies ages) files
+    (λ k d low.
+    let n = length-range_with_len 0 (length ages) in
+    let at = get_or-range_with_len 0 (length ages) k d (omega arith) in
+    let same = length-map actors (λ (a : Actor). age a.facts) in
+    due_of_file s (get_or ages (get_or files k d) 0) (get_or files k d) fit belong (omega arith)))
 
 -- the family of a file is the same as before
-pub family_at : (chain : Chain) (points : List ℕ) (before now : List Actor) (n : ℕ) (d : Actor)
-    → AreOfFamily chain points before → facts_in now ≡ facts_in before → n < length now
-    → IsOfFamily chain points (get_or now n d).facts.book
-family_at chain points before now n d all e low =
+pub family_at : (s : Script) (before now : List Actor) (n : ℕ) (d : Actor) → AreOfFamilies s before
+    → facts_in now ≡ facts_in before → n < length now
+    → IsOfFamily (file_code s n).shape (file_code s n).points (get_or now n d).facts.book
+family_at s before now n d of e low =
     let facts = λ (a : Actor). a.facts in
     let same = ap length e in
     let a = length-map before facts in
@@ -99,7 +145,7 @@ family_at chain points before now n d all e low =
     let lt : n < length before = omega arith in
     let path = sym (get_or-map facts before n d d.facts lt) ∙ ap (λ (l : List Facts). get_or l n d.facts) (sym e)
     ∙ get_or-map facts now n d d.facts low in
-    subst (λ (f : Facts). IsOfFamily chain points f.book) path (all n d lt)
+    subst (λ (f : Facts). IsOfFamily (file_code s n).shape (file_code s n).points f.book) path (of.each n d lt)
 
 pub stage_at : (chain : Chain) (points : List ℕ) (f : Facts) (due : ℕ) → IsOfFamily chain points f.book
     → due < length chain.stages → due < stages f
@@ -107,13 +153,11 @@ stage_at chain points f due is low =
     subst (λ (c : Chain). due < length c.stages) (sym is.shape) low
 
 -- what the first k visits leave
-pub visited_passed : (dues : List (ℕ × ℕ)) (k files most : ℕ) (before now : List Actor) (first last : List Part)
-    → AreDue files most dues → most ≤ 4 → All IsIdle before → All IsFiled before
+pub visited_passed : (s : Script) (dues : List (ℕ × ℕ)) (k : ℕ) (before now : List Actor) (first last : List Part)
+    → AreDue s dues → All IsIdle before → All IsFiled before
     → (v : VisitedAll (take k dues) before now first last) → Passed before now (length v.visits * 7920020)
-visited_passed dues k files most before now first last all few idle kept v =
-    visits_pass v.visits before now
-    (visits_low v.visits (take k dues) files most v.due
-    (All-take (λ (d : ℕ × ℕ). (d.0 < files) × (d.1 < most)) k dues all) few)
+visited_passed s dues k before now first last all idle kept v =
+    visits_pass v.visits before now (visits_low s v.visits (take k dues) v.due (All-take (IsDueOf s) k dues all))
     idle kept v.turn
 
 pub visits_few : (dues : List (ℕ × ℕ)) (k : ℕ) (before now : List Actor) (first last : List Part)

@@ -125,7 +125,6 @@ cut_finds s c away xs x = record {
   file = x.file;
   lines = λ server is. subst (All (Rattle.mf_client.specs.Steps.IsLine c.line server)) (sym (facts_cut away xs))
       (x.lines server is);
-  policy = x.policy;
 }
 
 pub all_cut : (away : Servers) (xs : List Actor) → All (λ (a : Actor). a.cut ≡ away) (cut_all away xs)

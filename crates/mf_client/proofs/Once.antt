@@ -18,6 +18,7 @@ use Rattle.mf_lines.specs.declared.parts.Command.{Command}
 use Rattle.mf_lines.specs.Meaning.{Script, file_in}
 use Rattle.mf_vault.specs.declared.answers.Pinned.{Pinned}
 use Rattle.mf_vault.specs.declared.answers.Pinned.TheVariants as pinned
+use Rattle.mf_script.specs.Families.{file_policies}
 use Rattle.mf_vault.specs.Actor.{Actor, Call, did, onward, pin, unpin, lose, cut_off}
 use Rattle.mf_vault.specs.Answers.{Goes}
 use Rattle.mf_vault.specs.Licence.{Does, did_all}
@@ -53,7 +54,7 @@ use Rattle.mf_client.specs.Acts.{Comes, ActsBy}
 use Rattle.mf_client.specs.Laws.{IsWhole, HadMemory, RunsOnce}
 use Rattle.mf_client.specs.Runs.{IsDone, RunsFrom, io_gained}
 use Rattle.mf_client.proofs.Went.{whole_on, whole_all, refused_reads, comes_does}
-use Rattle.mf_client.proofs.OnceSwept.{true_false, had_change, some_is, at_whole, swept_by_once, swept_by_whole}
+use Rattle.mf_client.proofs.OnceSwept.{true_false, had_change, some_is, at_whole, swept_once, swept_whole}
 
 -- two results are the same
 abbrev Same : Outcome → Outcome → Actor → Actor → Type 0
@@ -337,40 +338,40 @@ on_once n R S o p ps qs before after others once w (none, x) (also, y) =
     let r = once y.old x.new y.new (at_whole before n y.old w y.was) (subst (λ z. R z x.new) e x.goes) y.goes in
     (r.0, none ∙ sym also, x.is ∙ ap (slice_set before n) r.1 ∙ sym y.is)
 
-acts_once : (policy : Option (List ℕ)) (line : ℕ) (x : Act) (o p : Outcome) (ps qs : List Part)
-    (before after others : List Actor) → All IsWhole before → Acts policy line x o ps before after
-    → Acts policy line x p qs before others → outcome_lacks o ≡ false
+acts_once : (policies : List (Option (List ℕ))) (line : ℕ) (x : Act) (o p : Outcome) (ps qs : List Part)
+    (before after others : List Actor) → All IsWhole before → Acts policies line x o ps before after
+    → Acts policies line x p qs before others → outcome_lacks o ≡ false
     → list_any (λ (part : Part). change_lacks part.change) ps ≡ false → outcome_lacks p ≡ false
     → list_any (λ (part : Part). change_lacks part.change) qs ≡ false → (o ≡ p) × (ps ≡ qs) × (after ≡ others)
-acts_once policy line (act.Create file) o p ps qs before after others w x y had parts also both =
+acts_once policies line (act.Create file) o p ps qs before after others w x y had parts also both =
     on_once file (IsCreated o) (IsCreated p) o p ps qs before after others
     (λ a b c i m n. created_once o p a b c i m n had also) w x y
-acts_once policy line (act.Read file away) o p ps qs before after others w x y had parts also both =
+acts_once policies line (act.Read file away) o p ps qs before after others w x y had parts also both =
     on_once file (IsReadOut o) (IsReadOut p) o p ps qs before after others
     (λ a b c i m n. read_once o p a b c i m n had also) w x y
-acts_once policy line (act.Repair file away) o p ps qs before after others w x y had parts also both =
+acts_once policies line (act.Repair file away) o p ps qs before after others w x y had parts also both =
     on_once file (IsRepaired o) (IsRepaired p) o p ps qs before after others
     (λ a b c i m n. repaired_once o p a b c i m n had also) w x y
-acts_once policy line (act.Convert file away stop) o p ps qs before after others w x y had parts also both =
+acts_once policies line (act.Convert file away stop) o p ps qs before after others w x y had parts also both =
     on_once file (IsConverted stop o) (IsConverted stop p) o p ps qs before after others
     (λ a b c i m n. converted_once stop o p a b c i m n had also) w x y
-acts_once policy line (act.Reclaim file) o p ps qs before after others w x y had parts also both =
+acts_once policies line (act.Reclaim file) o p ps qs before after others w x y had parts also both =
     on_once file (IsReclaimed o) (IsReclaimed p) o p ps qs before after others
     (λ a b c i m n. reclaimed_once o p a b c i m n had also) w x y
-acts_once policy line (act.Remove file) o p ps qs before after others w x y had parts also both =
+acts_once policies line (act.Remove file) o p ps qs before after others w x y had parts also both =
     on_once file (IsRemoved o) (IsRemoved p) o p ps qs before after others
     (λ a b c i m n. removed_once o p a b c i m n) w x y
-acts_once policy line (act.Hold file) o p ps qs before after others w x y had parts also both =
+acts_once policies line (act.Hold file) o p ps qs before after others w x y had parts also both =
     on_once file (IsHeld o) (IsHeld p) o p ps qs before after others
     (λ a b c i m n. held_once o p a b c i m n) w x y
-acts_once policy line (act.Release file) o p ps qs before after others w x y had parts also both =
+acts_once policies line (act.Release file) o p ps qs before after others w x y had parts also both =
     on_once file (IsReleased o) (IsReleased p) o p ps qs before after others
     (λ a b c i m n. released_once o p a b c m n) w x y
-acts_once policy line (act.Lose server) o p ps qs before after others w x y had parts also both =
+acts_once policies line (act.Lose server) o p ps qs before after others w x y had parts also both =
     let r = lost_once server line o p before after others w x.1 y.1 had also in
     (r.0, x.0 ∙ sym y.0, r.1)
-acts_once policy line act.Sweep o p ps qs before after others w x y had parts also both =
-    swept_by_once policy o p ps qs before after others w x y had parts also both
+acts_once policies line act.Sweep o p ps qs before after others w x y had parts also both =
+    swept_once policies o p ps qs before after others w x y had parts also both
 
 -- ---- the whole states after a command
 
@@ -403,18 +404,18 @@ lose_whole server line (outcome.Lost n) before after w x =
 lose_whole server line outcome.Memory before after w x = subst (All IsWhole) (sym x) w
 lose_whole server line other before after w x = absurd x
 
-whole_by : (f : Option ℕ) (policy : Option (List ℕ)) (line : ℕ) (x : Act) (o : Outcome) (parts : List Part)
-    (before after : List Actor) → All IsWhole before → ActsBy f policy line x o parts before after
+whole_by : (f : Option ℕ) (policies : List (Option (List ℕ))) (line : ℕ) (x : Act) (o : Outcome) (parts : List Part)
+    (before after : List Actor) → All IsWhole before → ActsBy f policies line x o parts before after
     → All IsWhole after
-whole_by (Some file) policy line x o parts before after w h = on_whole x o file before after w h.1
-whole_by None policy line (act.Lose server) o parts before after w h = lose_whole server line o before after w h.1
-whole_by None policy line act.Sweep o parts before after w h = swept_by_whole policy o parts before after w h
-whole_by None policy line other o parts before after w h = absurd h
+whole_by (Some file) policies line x o parts before after w h = on_whole x o file before after w h.1
+whole_by None policies line (act.Lose server) o parts before after w h = lose_whole server line o before after w h.1
+whole_by None policies line act.Sweep o parts before after w h = swept_whole policies o parts before after w h
+whole_by None policies line other o parts before after w h = absurd h
 
-acts_whole : (policy : Option (List ℕ)) (line : ℕ) (x : Act) (o : Outcome) (parts : List Part)
+acts_whole : (policies : List (Option (List ℕ))) (line : ℕ) (x : Act) (o : Outcome) (parts : List Part)
     (before after : List Actor) → All IsWhole before
-    → Acts policy line x o parts before after → All IsWhole after
-acts_whole policy line x o parts before after w h = whole_by (file_in x) policy line x o parts before after w h
+    → Acts policies line x o parts before after → All IsWhole after
+acts_whole policies line x o parts before after w h = whole_by (file_in x) policies line x o parts before after w h
 
 -- ---- a client's commands
 
@@ -424,8 +425,8 @@ done_once : (s : Script) (at : Place) (c : Command) (d e : Done) (before after o
 done_once s at c d e before after others w x y had also =
     let mine = or_parts (outcome_lacks d.outcome) _ had in
     let others_had = or_parts (outcome_lacks e.outcome) _ also in
-    let r = acts_once s.policy c.line c.act d.outcome e.outcome d.parts e.parts (cut_all (away_of c.act) before) after
-    others (cut_whole (away_of c.act) before w) x.acts y.acts mine.0 mine.1 others_had.0 others_had.1 in
+    let r = acts_once (file_policies s) c.line c.act d.outcome e.outcome d.parts e.parts
+    (cut_all (away_of c.act) before) after others (cut_whole (away_of c.act) before w) x.acts y.acts mine.0 mine.1 others_had.0 others_had.1 in
     let place = x.place ∙ sym y.place in
     let same_act = x.act ∙ sym y.act in
     let io = x.io ∙ ap (io_gained before) r.2 ∙ sym y.io in
@@ -445,7 +446,7 @@ runs_once s phase client n (c ∷ commands) before after others (d ∷ ds) (e �
     let one = done_once s at c d e before mid also_mid w x y (All-head HadMemory d ds had) (All-head HadMemory e es
     also) in
     let all = runs_once s phase client (n + 1) commands mid after others ds es
-    (acts_whole s.policy c.line c.act d.outcome d.parts (cut_all (away_of c.act) before) mid
+    (acts_whole (file_policies s) c.line c.act d.outcome d.parts (cut_all (away_of c.act) before) mid
     (cut_whole (away_of c.act) before w) x.acts) xs
     (subst (λ (l : List Actor). RunsFrom s phase client (n + 1) commands l es others) (sym one.1) ys)
     (All-tail HadMemory d ds had) (All-tail HadMemory e es also) in

@@ -19,7 +19,6 @@ use Rattle.mf_client.specs.Laws.{IsWhole}
 use Rattle.mf_client.specs.OnFile.{OnFile}
 use Rattle.mf_client.specs.Sweeps.{Visit, Visits, ConvertsInTurn, VisitsInTurn, AreAll, IsSwept, Sweeps}
 use Rattle.mf_client.specs.Sweeps.{is_converted, parts_of, parts_in, dues_of}
-use Rattle.mf_client.specs.Acts.{SweepsBy}
 use Rattle.mf_client.proofs.Went.{whole_on}
 
 pub true_false : true ≡ false → ⊥
@@ -137,10 +136,10 @@ visits_once (v ∷ vs) (u ∷ us) before after others w (mid, x, xs) (other, y, 
     (subst (λ (l : List Actor). VisitsInTurn us l others) (sym middle) ys) rest had.1 also.1 in
     ((λ i. (record { file = file i; due = due i; changes = t.0 i }) ∷ r.0 i), r.1)
 
-sweeps_once : (thresholds : List ℕ) (n m : ℕ) (ps qs : List Part) (before after others : List Actor)
-    → All IsWhole before → Sweeps thresholds n ps before after → Sweeps thresholds m qs before others
+sweeps_once : (policies : List (Option (List ℕ))) (n m : ℕ) (ps qs : List Part) (before after others : List Actor)
+    → All IsWhole before → Sweeps policies n ps before after → Sweeps policies m qs before others
     → list_any lacking ps ≡ false → list_any lacking qs ≡ false → (n ≡ m) × (ps ≡ qs) × (after ≡ others)
-sweeps_once thresholds n m ps qs before after others w x y had also =
+sweeps_once policies n m ps qs before after others w x y had also =
     let r = visits_once x.visits y.visits before after others w x.turn y.turn (x.due ∙ sym y.due)
     (had_visits x.visits (sym (ap (list_any lacking) x.told) ∙ had))
     (had_visits y.visits (sym (ap (list_any lacking) y.told) ∙ also)) in
@@ -149,42 +148,28 @@ sweeps_once thresholds n m ps qs before after others w x y had also =
     ∙ ap (Rattle.std.specs.List.count_by (λ (part : Part). is_converted part.change)) parts ∙ sym y.count in
     (count, parts, r.1)
 
-swept_by : (thresholds : List ℕ) (n : ℕ) (p : Outcome) (ps qs : List Part) (before after others : List Actor)
-    → All IsWhole before → Sweeps thresholds n ps before after → IsSwept thresholds p qs before others
+swept_by : (policies : List (Option (List ℕ))) (n : ℕ) (p : Outcome) (ps qs : List Part) (before after others : List Actor)
+    → All IsWhole before → Sweeps policies n ps before after → IsSwept policies p qs before others
     → list_any lacking ps ≡ false → outcome_lacks p ≡ false → list_any lacking qs ≡ false
     → (outcome.Swept n ≡ p) × (ps ≡ qs) × (after ≡ others)
-swept_by thresholds n (outcome.Swept m) ps qs before after others w x y had none also =
-    let r = sweeps_once thresholds n m ps qs before after others w x y had also in
+swept_by policies n (outcome.Swept m) ps qs before after others w x y had none also =
+    let r = sweeps_once policies n m ps qs before after others w x y had also in
     (ap (λ k. outcome.Swept k) r.0, r.1, r.2)
-swept_by thresholds n outcome.Memory ps qs before after others w x y had none also = absurd (true_false none)
-swept_by thresholds n other ps qs before after others w x y had none also = absurd y
+swept_by policies n outcome.Memory ps qs before after others w x y had none also = absurd (true_false none)
+swept_by policies n other ps qs before after others w x y had none also = absurd y
 
-swept_once : (thresholds : List ℕ) (o p : Outcome) (ps qs : List Part) (before after others : List Actor)
-    → All IsWhole before → IsSwept thresholds o ps before after → IsSwept thresholds p qs before others
+pub swept_once : (policies : List (Option (List ℕ))) (o p : Outcome) (ps qs : List Part) (before after others : List Actor)
+    → All IsWhole before → IsSwept policies o ps before after → IsSwept policies p qs before others
     → outcome_lacks o ≡ false → list_any lacking ps ≡ false → outcome_lacks p ≡ false → list_any lacking qs ≡ false
     → (o ≡ p) × (ps ≡ qs) × (after ≡ others)
-swept_once thresholds (outcome.Swept n) p ps qs before after others w x y had parts none also =
-    swept_by thresholds n p ps qs before after others w x y parts none also
-swept_once thresholds outcome.Memory p ps qs before after others w x y had parts none also =
+swept_once policies (outcome.Swept n) p ps qs before after others w x y had parts none also =
+    swept_by policies n p ps qs before after others w x y parts none also
+swept_once policies outcome.Memory p ps qs before after others w x y had parts none also =
     absurd (true_false had)
-swept_once thresholds other p ps qs before after others w x y had parts none also = absurd x
+swept_once policies other p ps qs before after others w x y had parts none also = absurd x
 
-pub swept_by_once : (policy : Option (List ℕ)) (o p : Outcome) (ps qs : List Part) (before after others : List Actor)
-    → All IsWhole before → SweepsBy policy o ps before after → SweepsBy policy p qs before others
-    → outcome_lacks o ≡ false → list_any (λ (part : Part). change_lacks part.change) ps ≡ false
-    → outcome_lacks p ≡ false → list_any (λ (part : Part). change_lacks part.change) qs ≡ false
-    → (o ≡ p) × (ps ≡ qs) × (after ≡ others)
-swept_by_once None o p ps qs before after others w x y had parts none also = absurd x
-swept_by_once (Some thresholds) o p ps qs before after others w x y had parts none also =
-    swept_once thresholds o p ps qs before after others w x y had parts none also
-
-swept_whole : (thresholds : List ℕ) (o : Outcome) (parts : List Part) (before after : List Actor) → All IsWhole before
-    → IsSwept thresholds o parts before after → All IsWhole after
-swept_whole thresholds (outcome.Swept n) parts before after w x = visits_whole x.visits before after w x.turn
-swept_whole thresholds outcome.Memory parts before after w x = subst (All IsWhole) (sym x.1) w
-swept_whole thresholds other parts before after w x = absurd x
-
-pub swept_by_whole : (policy : Option (List ℕ)) (o : Outcome) (parts : List Part) (before after : List Actor)
-    → All IsWhole before → SweepsBy policy o parts before after → All IsWhole after
-swept_by_whole None o parts before after w x = absurd x
-swept_by_whole (Some thresholds) o parts before after w x = swept_whole thresholds o parts before after w x
+pub swept_whole : (policies : List (Option (List ℕ))) (o : Outcome) (parts : List Part) (before after : List Actor) → All IsWhole before
+    → IsSwept policies o parts before after → All IsWhole after
+swept_whole policies (outcome.Swept n) parts before after w x = visits_whole x.visits before after w x.turn
+swept_whole policies outcome.Memory parts before after w x = subst (All IsWhole) (sym x.1) w
+swept_whole policies other parts before after w x = absurd x

@@ -158,24 +158,20 @@ Comes act.Sweep came = λ a b. ⊥
 abbrev pub ActsOn : (file : ℕ) → (Actor → Actor → Type 0) → List Part → List Actor → List Actor → Type 0
 ActsOn file Goes parts before after = (parts ≡ []) × OnFile file Goes before after
 
--- what a sweep by this policy did; there is none without a policy
-abbrev pub SweepsBy : (policy : Option (List ℕ)) → Outcome → List Part → List Actor → List Actor → Type 0
-SweepsBy None came parts before after = ⊥
-SweepsBy (Some thresholds) came parts before after = IsSwept thresholds came parts before after
-
--- what a command that is on no file did
-abbrev pub ActsAlone : (policy : Option (List ℕ)) → (line : ℕ) → Act → Outcome → List Part → List Actor → List Actor
-    → Type 0
-ActsAlone policy line (act.Lose server) came parts before after = (parts ≡ []) × IsLost server line came before after
-ActsAlone policy line act.Sweep came parts before after = SweepsBy policy came parts before after
-ActsAlone policy line other came parts before after = ⊥
+-- what a command that is on no file did; the files' families have these policies
+abbrev pub ActsAlone : (policies : List (Option (List ℕ))) → (line : ℕ) → Act → Outcome → List Part → List Actor
+    → List Actor → Type 0
+ActsAlone policies line (act.Lose server) came parts before after = (parts ≡ []) × IsLost server line came before after
+ActsAlone policies line act.Sweep came parts before after = IsSwept policies came parts before after
+ActsAlone policies line other came parts before after = ⊥
 
 -- what a command did that is on this file, or on none
-abbrev pub ActsBy : Option ℕ → (policy : Option (List ℕ)) → (line : ℕ) → Act → Outcome → List Part → List Actor
-    → List Actor → Type 0
-ActsBy (Some file) policy line x came parts before after = ActsOn file (Comes x came) parts before after
-ActsBy None policy line x came parts before after = ActsAlone policy line x came parts before after
+abbrev pub ActsBy : Option ℕ → (policies : List (Option (List ℕ))) → (line : ℕ) → Act → Outcome → List Part
+    → List Actor → List Actor → Type 0
+ActsBy (Some file) policies line x came parts before after = ActsOn file (Comes x came) parts before after
+ActsBy None policies line x came parts before after = ActsAlone policies line x came parts before after
 
--- what the command in this line of a script with this policy did, behind the cutting off
-abbrev pub Acts : (policy : Option (List ℕ)) → (line : ℕ) → Act → Outcome → List Part → List Actor → List Actor → Type 0
-Acts policy line x came parts before after = ActsBy (file_in x) policy line x came parts before after
+-- what the command in this line did, behind the cutting off; the files' families have these policies
+abbrev pub Acts : (policies : List (Option (List ℕ))) → (line : ℕ) → Act → Outcome → List Part → List Actor
+    → List Actor → Type 0
+Acts policies line x came parts before after = ActsBy (file_in x) policies line x came parts before after

@@ -1,13 +1,12 @@
 -- A client of a script, and the files that it finds.
 use Rattle.std.specs.Prelude.{◌≡◌, ℕ, ◌-◌, ◌≤◌, List, [], length, map, slice_get, slice_index_or, Some}
-use Rattle.mf_check.specs.Families.{Code}
 use Rattle.mf_lines.specs.declared.parts.Command.{Command}
 use Rattle.mf_lines.specs.declared.parts.FileLine.{FileLine}
-use Rattle.mf_lines.specs.Meaning.{Script, main_of, phases_in}
+use Rattle.mf_lines.specs.Meaning.{Script, phases_in}
 use Rattle.mf_script.specs.Contents.{bytes_in}
+use Rattle.mf_script.specs.Families.{file_code}
 use Rattle.mf_script.specs.Losses.{losses_of}
 use Rattle.mf_script.specs.Phases.{clients_of}
-use Rattle.mf_script.specs.Scripts.{code_of}
 use Rattle.mf_vault.specs.Facts.{Facts}
 use Rattle.mf_vault.specs.Actor.{Actor}
 use Rattle.mf_vault.specs.Conditions.{IsOfFamily}
@@ -21,14 +20,10 @@ pub record HasClient (s : Script) (phase client : ℕ) : Type 0 where
   pub phases : (1 ≤ phase) × (phase ≤ length (phases_in s.items))
   pub clients : (1 ≤ client) × (client ≤ length (clients_of s phase))
 
--- the code of the script's family
-abbrev pub family_of : Script → Code
-family_of s = code_of s (main_of s)
-
--- in this phase the script's file of this number and this line has these facts: the shape and the points of the family,
+-- in this phase the script's file of this number and this line has these facts: the shape and the points of its family,
 -- the chunk size, the number, the bytes, and the lose lines up to the end of the phase
 pub record IsFileOf (s : Script) (phase number : ℕ) (line : FileLine) (f : Facts) : Type 0 where
-  pub family : IsOfFamily (family_of s).shape (family_of s).points f.book
+  pub family : IsOfFamily (file_code s number).shape (file_code s number).points f.book
   pub chunk : f.book.chunk ≡ s.chunk
   pub file : f.book.file ≡ number
   pub bytes : f.bytes ≡ bytes_in line.content

@@ -2,6 +2,7 @@
 use Rattle.std.specs.Prelude.{◌≡◌, ℕ, ◌+◌, ◌^◌, ◌<◌, List, [], ◌∷◌, length, drop}
 use Rattle.mf_lines.specs.declared.parts.Command.{Command}
 use Rattle.mf_lines.specs.Meaning.{Script}
+use Rattle.mf_script.specs.Families.{file_policies}
 use Rattle.mf_vault.specs.declared.answers.Entry.{Entry}
 use Rattle.mf_vault.specs.declared.io.Io.{Io}
 use Rattle.mf_vault.specs.Actor.{Actor}
@@ -35,7 +36,8 @@ pub record IsSmall (io : Io) : Type 0 where
 pub record IsDone (s : Script) (at : Place) (command : Command) (done : Done) (before after : List Actor) : Type 0 where
   pub place : done.place ≡ at
   pub act : done.act ≡ command.act
-  pub acts : Acts s.policy command.line command.act done.outcome done.parts (cut_all (away_of command.act) before) after
+  pub acts : Acts (file_policies s) command.line command.act done.outcome done.parts
+      (cut_all (away_of command.act) before) after
   pub io : done.io ≡ io_gained before after
 
 -- commands in turn, of which the first has this number

@@ -1,13 +1,14 @@
 -- What the parts of a run do.
 use Rattle.std.specs.Prelude.{◌≡◌, ℕ, ◌<◌, ◌≤◌, true, List, [], ◌∷◌, ◌++◌, length, map, take, All, Some, Vec}
+use Rattle.std.specs.Prelude.{slice_index_or}
 use Rattle.std.specs.Global.{Global}
 use Rattle.mf_machine.specs.File.{listed}
-use Rattle.mf_shape.specs.Chain.{Chain}
 use Rattle.mf_places.specs.declared.Name.{Name}
 use Rattle.mf_lines.specs.declared.parts.Act.{Act}
 use Rattle.mf_lines.specs.declared.parts.Act.TheVariants as act
 use Rattle.mf_lines.specs.declared.parts.Command.{Command}
 use Rattle.mf_lines.specs.Meaning.{Script, file_in}
+use Rattle.mf_script.specs.Families.{file_code}
 use Rattle.mf_vault.specs.Facts.{Facts, lines}
 use Rattle.mf_vault.specs.Actor.{Actor}
 use Rattle.mf_vault.specs.Conditions.{IsIdle, IsOfFamily}
@@ -16,7 +17,7 @@ use Rattle.mf_convert.specs.declared.change.Change.{Change}
 use Rattle.mf_client.specs.declared.done.Outcome.{Outcome}
 use Rattle.mf_client.specs.declared.done.Part.{Part}
 use Rattle.mf_client.specs.declared.done.Done.{Done}
-use Rattle.mf_client.specs.Clients.{AreFiles, facts_in, commands_of, family_of}
+use Rattle.mf_client.specs.Clients.{AreFiles, facts_in, commands_of}
 use Rattle.mf_client.specs.Runs.{RunsFrom, IsSmall}
 use Rattle.mf_client.specs.Sweeps.{Visit, ConvertsInTurn, Visits, VisitsInTurn, is_converted, parts_of, parts_in}
 use Rattle.mf_client.specs.Sweeps.{dues_of}
@@ -25,15 +26,7 @@ use Rattle.mf_client.specs.Sweeps.{dues_of}
 abbrev pub IsLine : (line server : ℕ) → Facts → Type 0
 IsLine line server f = 0 < listed line server (lines f.losses)
 
--- the script has a policy, with a threshold for each stage of its family
-pub record HasPolicy (s : Script) : Type 0 where
-  pub thresholds : List ℕ
-  pub is : s.policy ≡ Some thresholds
-  pub long : length thresholds ≡ length (family_of s).shape.stages
-  pub few : length thresholds ≤ 4
-
--- a command finds the files of its phase: its file is one of the script's, its line is a lose line of its server, or
--- the script has a policy
+-- a command finds the files of its phase: its file is one of the script's, or its line is a lose line of its server
 pub record Finds (s : Script) (command : Command) (actors : List Actor) : Type 0 where
   pub phase : ℕ
   pub files : AreFiles s phase (facts_in actors)
@@ -41,7 +34,6 @@ pub record Finds (s : Script) (command : Command) (actors : List Actor) : Type 0
   pub few : length actors ≤ 128
   pub file : (n : ℕ) → file_in command.act ≡ Some n → n < length s.files
   pub lines : (server : ℕ) → command.act ≡ act.Lose server → All (IsLine command.line server) (facts_in actors)
-  pub policy : command.act ≡ act.Sweep → HasPolicy s
 
 -- ---- names that are lost
 
@@ -98,13 +90,21 @@ pub record Visited (file due : ℕ) (a b : Actor) (before after : List Part) : T
   pub visits : Visits (record { file = file; due = due; changes = changes }) a b
   pub told : after ≡ before ++ parts_of file changes
 
--- the files of these actors are of the family
-abbrev pub AreOfFamily : Chain → (points : List ℕ) → List Actor → Type 0
-AreOfFamily chain points actors = All (λ (a : Actor). IsOfFamily chain points a.facts.book) actors
+-- the script's files, one an actor, each of its family
+pub record AreOfFamilies (s : Script) (actors : List Actor) : Type 0 where
+  pub count : length actors ≡ length s.files
+  pub each : (n : ℕ) (d : Actor) → n < length actors
+      → IsOfFamily (file_code s n).shape (file_code s n).points (slice_index_or actors n d).facts.book
 
--- these are files, each with a stage
-abbrev pub AreDue : (files stages : ℕ) → List (ℕ × ℕ) → Type 0
-AreDue files stages dues = All (λ (d : ℕ × ℕ). (d.0 < files) × (d.1 < stages)) dues
+-- a file of the script, and a stage of its family, of which there are at most four
+pub record IsDueOf (s : Script) (due : ℕ × ℕ) : Type 0 where
+  pub file : due.0 < length s.files
+  pub stage : due.1 < length (file_code s due.0).shape.stages
+  pub few : due.1 < 4
+
+-- so are these
+abbrev pub AreDue : Script → List (ℕ × ℕ) → Type 0
+AreDue s dues = All (IsDueOf s) dues
 
 -- these files were visited in turn, which led from these actors to those, and was told behind the parts before
 pub record VisitedAll (dues : List (ℕ × ℕ)) (before after : List Actor) (first last : List Part) : Type 0 where

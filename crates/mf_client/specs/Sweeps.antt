@@ -1,5 +1,5 @@
 -- What a sweep does.
-use Rattle.std.specs.Prelude.{◌≡◌, ℕ, zero, suc, Bool, true, false, List, [], ◌∷◌, map, filter, None, count_by}
+use Rattle.std.specs.Prelude.{◌≡◌, ℕ, zero, suc, Bool, true, false, List, [], ◌∷◌, map, filter, Option, None, count_by}
 use Rattle.std.specs.List.{flat_map}
 use Rattle.mf_policy.specs.Due.{sweep_of}
 use Rattle.mf_vault.specs.Actor.{Actor}
@@ -73,16 +73,17 @@ ages_in actors = map (λ (a : Actor). age a.facts) actors
 abbrev pub dues_of : List Visit → List (ℕ × ℕ)
 dues_of visits = map (λ (v : Visit). (v.file, v.due)) visits
 
--- each file that is due was visited once, in order; n conversions published a generation
-pub record Sweeps (thresholds : List ℕ) (n : ℕ) (parts : List Part) (before after : List Actor) : Type 0 where
+-- each file that is due by the policy of its family was visited once, in order; n conversions published a generation
+pub record Sweeps (policies : List (Option (List ℕ))) (n : ℕ) (parts : List Part) (before after : List Actor)
+    : Type 0 where
   pub visits : List Visit
-  pub due : dues_of visits ≡ sweep_of thresholds (ages_in before)
+  pub due : dues_of visits ≡ sweep_of policies (ages_in before)
   pub turn : VisitsInTurn visits before after
   pub told : parts ≡ parts_in visits
   pub count : n ≡ count_by (λ (part : Part). is_converted part.change) parts
 
--- what came of a sweep by these thresholds; where memory ran out before it began, nothing was done
-abbrev pub IsSwept : (thresholds : List ℕ) → Outcome → List Part → List Actor → List Actor → Type 0
-IsSwept thresholds (outcome.Swept n) parts before after = Sweeps thresholds n parts before after
-IsSwept thresholds outcome.Memory parts before after = (parts ≡ []) × (after ≡ before)
-IsSwept thresholds other parts before after = ⊥
+-- what came of a sweep by the policies of the files' families; where memory ran out before it began, nothing was done
+abbrev pub IsSwept : (policies : List (Option (List ℕ))) → Outcome → List Part → List Actor → List Actor → Type 0
+IsSwept policies (outcome.Swept n) parts before after = Sweeps policies n parts before after
+IsSwept policies outcome.Memory parts before after = (parts ≡ []) × (after ≡ before)
+IsSwept policies other parts before after = ⊥

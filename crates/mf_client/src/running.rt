@@ -3,15 +3,16 @@
 ghost use Rattle.std.specs.Prelude.{◌≡◌, ◌≤◌, ℕ, [], All, map, length, Some, IfOk, OnErr};
 ghost use Rattle.mf_lines.specs.Meaning.{file_in};
 ghost use Rattle.mf_script.specs.Contents.{bytes_in};
+ghost use Rattle.mf_script.specs.Families.{file_policies};
 ghost use Rattle.mf_vault.specs.Actor.{Actor};
 ghost use Rattle.mf_vault.specs.Conditions.{IsIdle, IsOfFamily};
 ghost use Rattle.mf_vault.specs.Counting.{io_of};
 ghost use Rattle.mf_client.specs.declared.done.Done.{Done};
-ghost use Rattle.mf_client.specs.Acts.{Acts, Comes, SweepsBy, away_of, cut_all};
+ghost use Rattle.mf_client.specs.Acts.{Acts, Comes, away_of, cut_all};
 ghost use Rattle.mf_client.specs.OnFile.{OnFile};
-ghost use Rattle.mf_client.specs.Clients.{HasClient, AreFiles, facts_in, family_of};
+ghost use Rattle.mf_client.specs.Clients.{HasClient, AreFiles, facts_in};
 ghost use Rattle.mf_client.specs.Runs.{Runs, IsSmall, IsDone, gained, io_gained};
-ghost use Rattle.mf_client.specs.Steps.{Finds, HasPolicy, AreOfFamily};
+ghost use Rattle.mf_client.specs.Steps.{Finds};
 
 use crate::acting::{
     convert_file, create_file, hold_file, read_file, reclaim_file, release_file, remove_file,
@@ -117,27 +118,10 @@ fn on_numbered<A: Fetch>(
     ensures io { result.io
         ≡ io_gained (map A.actor accesses.old) (map A.actor accesses.new) }
 {
+    let family = script.family(script.family_of(file));
     let content = &script.files()[file as usize].content;
     let access = &mut accesses[file as usize];
-    on_file(alloc, access, script.family(), plans, content, command.act)
-}
-
-// A sweep, behind the cutting off.
-fn sweep<A: Fetch>(alloc: Global, accesses: &mut [A], script: &Script) -> Came
-    requires policy { HasPolicy script.now }
-    requires family { AreOfFamily (family_of script.now).shape (family_of script.now).points
-        (map A.actor accesses.old) }
-    requires idle { All IsIdle (map A.actor accesses.old) }
-    requires few { length accesses.old ≤ 128 }
-    ensures swept { SweepsBy script.now.policy result.outcome result.parts.items
-        (map A.actor accesses.old) (map A.actor accesses.new) }
-    ensures io { result.io
-        ≡ io_gained (map A.actor accesses.old) (map A.actor accesses.new) }
-{
-    let Some(policy) = script.policy() else {
-        unreachable!()
-    };
-    sweep_files(alloc, accesses, script.family(), policy)
+    on_file(alloc, access, family, plans, content, command.act)
 }
 
 // A command, behind the cutting off.
@@ -150,9 +134,8 @@ fn act<A: Fetch>(
 ) -> Came
     requires finds { Finds script.now command (map A.actor accesses.old) }
     requires reached { All (λ (a : Actor). a.cut ≡ away_of command.act) (map A.actor accesses.old) }
-    ensures acts { Acts script.now.policy command.line command.act result.outcome
-        result.parts.items
-        (map A.actor accesses.old) (map A.actor accesses.new) }
+    ensures acts { Acts (file_policies script.now) command.line command.act result.outcome
+        result.parts.items (map A.actor accesses.old) (map A.actor accesses.new) }
     ensures io { result.io
         ≡ io_gained (map A.actor accesses.old) (map A.actor accesses.new) }
 {
@@ -170,7 +153,7 @@ fn act<A: Fetch>(
             parts: Vec::new(alloc),
             io: NOTHING,
         },
-        Act::Sweep => sweep(alloc, accesses, script),
+        Act::Sweep => sweep_files(alloc, accesses, script),
     }
 }
 

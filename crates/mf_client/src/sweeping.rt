@@ -4,19 +4,22 @@ ghost use Rattle.std.specs.Prelude.{◌≡◌, ◌+◌, ◌*◌, ◌<◌, ◌≤
 ghost use Rattle.std.specs.Prelude.{length, map};
 ghost use Rattle.std.specs.Prelude.{count_by, vec_capacity};
 ghost use Rattle.mf_policy.specs.Due.{sweep_of};
+ghost use Rattle.mf_script.specs.Families.{file_policies};
 ghost use Rattle.mf_vault.specs.Actor.{Actor};
 ghost use Rattle.mf_vault.specs.Conditions.{IsIdle, IsOfFamily};
 ghost use Rattle.mf_vault.specs.Counting.{io_of};
 ghost use Rattle.mf_vault.specs.Facts.{stages};
 ghost use Rattle.mf_client.specs.Runs.{gained, io_gained};
 ghost use Rattle.mf_client.specs.Sweeps.{IsSwept, is_converted, is_part, parts_of, ages_in};
-ghost use Rattle.mf_client.specs.Steps.{AreDue, AreOfFamily, Visited, VisitedAll};
+ghost use Rattle.mf_client.specs.Steps.{AreDue, AreOfFamilies, Visited, VisitedAll};
 
 use crate::came::{Came, NOTHING, append, count_from};
 use crate::done::{Outcome, Part};
 use mf_convert::{Change, convert};
-use mf_policy::{Policy, sweep_list};
+use mf_policy::sweep_list;
 use mf_read::Family;
+use mf_script::Script;
+use mf_shape::MAX_STAGES;
 use mf_vault::{Fetch, Io, Memory};
 use std::alloc::Global;
 
@@ -104,18 +107,16 @@ fn visit<A: Fetch>(
 fn visit_all<A: Fetch>(
     alloc: Global,
     accesses: &mut [A],
-    family: &Family,
+    script: &Script,
     dues: &[(u32, u32)],
     parts: &mut Vec<Part>,
 ) -> Io
     requires idle { All IsIdle (map A.actor accesses.old) }
-    requires family { AreOfFamily family.now.shape family.now.points
-        (map A.actor accesses.old) }
-    requires due { AreDue (length accesses.old) (length family.now.shape.stages) dues.now }
-    requires stages { length family.now.shape.stages ≤ 4 }
+    requires families { AreOfFamilies script.now (map A.actor accesses.old) }
+    requires due { AreDue script.now dues.now }
     requires few { length dues.now ≤ 128 }
     requires none { parts.old.items ≡ [] }
-    requires room { length dues.now * length family.now.shape.stages ≤ vec_capacity parts.old }
+    requires room { length dues.now * 4 ≤ vec_capacity parts.old }
     ensures visited { VisitedAll dues.now (map A.actor accesses.old) (map A.actor accesses.new)
         [] parts.new.items }
     ensures few { length parts.new.items ≤ 512 }
@@ -124,6 +125,7 @@ fn visit_all<A: Fetch>(
 {
     let mut io = NOTHING;
     for (file, due) in dues {
+        let family = script.family(script.family_of(*file));
         let access = &mut accesses[*file as usize];
         io = io.plus(visit(alloc, access, family, *file, *due, parts));
     }
@@ -150,51 +152,42 @@ struct Plan {
 }
 
 // The plan of a sweep. The only error is want of memory.
-fn planned<A: Fetch>(alloc: Global, accesses: &[A], policy: &Policy) -> Result<Plan, Memory>
+fn planned<A: Fetch>(alloc: Global, accesses: &[A], script: &Script) -> Result<Plan, Memory>
     requires few { length accesses.now ≤ 128 }
-    requires stages { length policy.now ≤ 4 }
+    requires count { length accesses.now ≡ length script.now.files }
     ensures dues { IfOk result (λ plan. plan.dues.items
-        ≡ sweep_of policy.now (ages_in (map A.actor accesses.now))) }
-    ensures due { IfOk result (λ plan. AreDue (length accesses.now) (length policy.now)
-        plan.dues.items) }
+        ≡ sweep_of (file_policies script.now) (ages_in (map A.actor accesses.now))) }
+    ensures due { IfOk result (λ plan. AreDue script.now plan.dues.items) }
     ensures few { IfOk result (λ plan. length plan.dues.items ≤ 128) }
     ensures none { IfOk result (λ plan. plan.parts.items ≡ []) }
-    ensures room { IfOk result (λ plan. length plan.dues.items * length policy.now
-        ≤ vec_capacity plan.parts) }
+    ensures room { IfOk result (λ plan. length plan.dues.items * 4 ≤ vec_capacity plan.parts) }
 {
-    let stages = policy.thresholds().len();
+    let policies = script.policies();
+    let families = script.file_families();
     let ages = ages_of(alloc, accesses)?;
-    let dues = sweep_list(alloc, policy, ages.as_slice())?;
-    let parts = Vec::with_capacity(alloc, dues.len() * stages)?;
+    let dues = sweep_list(alloc, policies, families, ages.as_slice())?;
+    let parts = Vec::with_capacity(alloc, dues.len() * MAX_STAGES)?;
     Ok(Plan { dues, parts })
 }
 
 // Converts each file up to the stage for which it is due.
-pub(crate) fn sweep_files<A: Fetch>(
-    alloc: Global,
-    accesses: &mut [A],
-    family: &Family,
-    policy: &Policy,
-) -> Came
+pub(crate) fn sweep_files<A: Fetch>(alloc: Global, accesses: &mut [A], script: &Script) -> Came
     requires idle { All IsIdle (map A.actor accesses.old) }
-    requires family { AreOfFamily family.now.shape family.now.points
-        (map A.actor accesses.old) }
+    requires families { AreOfFamilies script.now (map A.actor accesses.old) }
     requires few { length accesses.old ≤ 128 }
-    requires policy { length policy.now ≡ length family.now.shape.stages }
-    requires stages { length policy.now ≤ 4 }
-    ensures swept { IsSwept policy.now result.outcome result.parts.items
+    ensures swept { IsSwept (file_policies script.now) result.outcome result.parts.items
         (map A.actor accesses.old) (map A.actor accesses.new) }
     ensures io { result.io
         ≡ io_gained (map A.actor accesses.old) (map A.actor accesses.new) }
 {
-    let Ok(Plan { dues, mut parts }) = planned(alloc, accesses, policy) else {
+    let Ok(Plan { dues, mut parts }) = planned(alloc, accesses, script) else {
         return Came {
             outcome: Outcome::Memory,
             parts: Vec::new(alloc),
             io: NOTHING,
         };
     };
-    let io = visit_all(alloc, accesses, family, dues.as_slice(), &mut parts);
+    let io = visit_all(alloc, accesses, script, dues.as_slice(), &mut parts);
     let swept = parts
         .iter()
         .filter(|part| is_converted(part.change))

@@ -16,6 +16,7 @@ use Rattle.mf_lines.specs.declared.parts.Act.{Act}
 use Rattle.mf_lines.specs.declared.parts.Act.TheVariants as act
 use Rattle.mf_lines.specs.declared.parts.Command.{Command}
 use Rattle.mf_lines.specs.Meaning.{Script, file_in}
+use Rattle.mf_script.specs.Families.{file_policies}
 use Rattle.mf_vault.specs.declared.answers.Got.TheVariants as got
 use Rattle.mf_vault.specs.declared.answers.Pinned.{Pinned}
 use Rattle.mf_vault.specs.declared.answers.Pinned.TheVariants as pinned
@@ -28,7 +29,7 @@ use Rattle.mf_client.specs.declared.done.Done.{Done}
 use Rattle.mf_client.specs.declared.done.Outcome.{Outcome}
 use Rattle.mf_client.specs.declared.done.Outcome.TheVariants as outcome
 use Rattle.mf_client.specs.declared.done.Part.{Part}
-use Rattle.mf_client.specs.Acts.{Acts, SweepsBy, LosesAll, IsLost, lists_on, cut_all, away_of}
+use Rattle.mf_client.specs.Acts.{Acts, LosesAll, IsLost, lists_on, cut_all, away_of}
 use Rattle.mf_client.specs.OnFile.{OnFile}
 use Rattle.mf_client.specs.Sweeps.{ConvertsInTurn, Visit, Visits, VisitsInTurn, IsSwept}
 use Rattle.mf_client.specs.Runs.{Runs, RunsFrom}
@@ -125,27 +126,22 @@ visits_shares (v ∷ vs) before after (mid, one, rest) =
     visits_shares vs mid after rest
     ∙ file_shares (Visits v) v.file before mid (λ a b x. turn_share v.due v.changes a b x.converts) one
 
-swept_shares : (thresholds : List ℕ) (o : Outcome) (parts : List Part) (before after : List Actor)
-    → IsSwept thresholds o parts before after → shares after ≡ shares before
-swept_shares thresholds (outcome.Swept n) parts before after x = visits_shares x.visits before after x.turn
-swept_shares thresholds outcome.Memory parts before after x = ap shares x.1
-swept_shares thresholds other parts before after x = absurd x
+swept_shares : (policies : List (Option (List ℕ))) (o : Outcome) (parts : List Part) (before after : List Actor)
+    → IsSwept policies o parts before after → shares after ≡ shares before
+swept_shares policies (outcome.Swept n) parts before after x = visits_shares x.visits before after x.turn
+swept_shares policies outcome.Memory parts before after x = ap shares x.1
+swept_shares policies other parts before after x = absurd x
 
-sweep_shares : (policy : Option (List ℕ)) (o : Outcome) (parts : List Part) (before after : List Actor)
-    → SweepsBy policy o parts before after → shares after ≡ shares before
-sweep_shares None o parts before after x = absurd x
-sweep_shares (Some thresholds) o parts before after x = swept_shares thresholds o parts before after x
+shares_by : (f : Option ℕ) (policies : List (Option (List ℕ))) (line : ℕ) (x : Act) (o : Outcome) (parts : List Part)
+    (before after : List Actor) → ActsBy f policies line x o parts before after → shares after ≡ shares before
+shares_by (Some file) policies line x o parts before after h = on_shares x o file before after h.1
+shares_by None policies line (act.Lose server) o parts before after h = lost_shares server line o before after h.1
+shares_by None policies line act.Sweep o parts before after h = swept_shares policies o parts before after h
+shares_by None policies line other o parts before after h = absurd h
 
-shares_by : (f : Option ℕ) (policy : Option (List ℕ)) (line : ℕ) (x : Act) (o : Outcome) (parts : List Part)
-    (before after : List Actor) → ActsBy f policy line x o parts before after → shares after ≡ shares before
-shares_by (Some file) policy line x o parts before after h = on_shares x o file before after h.1
-shares_by None policy line (act.Lose server) o parts before after h = lost_shares server line o before after h.1
-shares_by None policy line act.Sweep o parts before after h = sweep_shares policy o parts before after h
-shares_by None policy line other o parts before after h = absurd h
-
-pub acts_shares : (policy : Option (List ℕ)) (line : ℕ) (x : Act) (o : Outcome) (parts : List Part)
-    (before after : List Actor) → Acts policy line x o parts before after → shares after ≡ shares before
-acts_shares policy line x o parts before after h = shares_by (file_in x) policy line x o parts before after h
+pub acts_shares : (policies : List (Option (List ℕ))) (line : ℕ) (x : Act) (o : Outcome) (parts : List Part)
+    (before after : List Actor) → Acts policies line x o parts before after → shares after ≡ shares before
+acts_shares policies line x o parts before after h = shares_by (file_in x) policies line x o parts before after h
 
 pub cut_shares : (away : Servers) (before : List Actor) → shares (cut_all away before) ≡ shares before
 cut_shares away [] = refl
@@ -157,7 +153,7 @@ from_shares s phase client n [] before done after x = ap shares x.1
 from_shares s phase client n (c ∷ commands) before [] after x = absurd x
 from_shares s phase client n (c ∷ commands) before (d ∷ done) after (mid, one, rest) =
     from_shares s phase client (n + 1) commands mid done after rest
-    ∙ acts_shares s.policy c.line c.act d.outcome d.parts (cut_all (away_of c.act) before) mid one.acts
+    ∙ acts_shares (file_policies s) c.line c.act d.outcome d.parts (cut_all (away_of c.act) before) mid one.acts
     ∙ cut_shares (away_of c.act) before
 
 -- neither does a client's run

@@ -13,6 +13,7 @@ use Rattle.mf_lines.specs.declared.parts.Act.{Act}
 use Rattle.mf_lines.specs.declared.parts.Act.TheVariants as act
 use Rattle.mf_lines.specs.declared.parts.Command.{Command}
 use Rattle.mf_lines.specs.Meaning.{Script, file_in}
+use Rattle.mf_script.specs.Families.{file_policies}
 use Rattle.mf_vault.specs.Facts.{Facts, stages}
 use Rattle.mf_vault.specs.Actor.{Actor, Call, did}
 use Rattle.mf_vault.specs.Actor as call
@@ -29,7 +30,7 @@ use Rattle.mf_client.specs.declared.done.Outcome.{Outcome}
 use Rattle.mf_client.specs.declared.done.Outcome.TheVariants as outcome
 use Rattle.mf_client.specs.declared.done.Part.{Part}
 use Rattle.mf_client.specs.declared.done.Place.{Place}
-use Rattle.mf_client.specs.Acts.{ActsBy, Comes, SweepsBy, LosesIn, LosesAll, IsLost, lists_on, cut_all, away_of, loses}
+use Rattle.mf_client.specs.Acts.{ActsBy, Comes, LosesIn, LosesAll, IsLost, lists_on, cut_all, away_of, loses}
 use Rattle.mf_client.specs.OnFile.{OnFile}
 use Rattle.mf_client.specs.Runs.{RunsFrom, IsDone}
 use Rattle.mf_client.specs.Sweeps.{ConvertsInTurn, Visit, Visits, VisitsInTurn, IsSwept, parts_of, parts_in}
@@ -369,10 +370,10 @@ parts_close_none q n (p ∷ parts) =
     either true = change_closes_none q p.change
     either false = refl
 
-swept_came : (q n : ℕ) (thresholds : List ℕ) (o : Outcome) (parts : List Part) (d : Actor) (before after : List Actor)
-    → IsSwept thresholds o parts before after → n < length before
+swept_came : (q n : ℕ) (policies : List (Option (List ℕ))) (o : Outcome) (parts : List Part) (d : Actor)
+    (before after : List Actor) → IsSwept policies o parts before after → n < length before
     → Came q n None o parts (get_or before n d) (get_or after n d)
-swept_came q n thresholds (outcome.Swept k) parts d before after x low =
+swept_came q n policies (outcome.Swept k) parts d before after x low =
     let t = visits_tell q n x.visits d before after x.turn low in record {
       calls = t.calls;
       does = t.does;
@@ -380,31 +381,25 @@ swept_came q n thresholds (outcome.Swept k) parts d before after x low =
           (under_fits (visits_under q n x.visits) t.fits);
       more = leaves_more (parts_name_none q n parts) (parts_close_none q n parts) t.leaves t.keeps;
     }
-swept_came q n thresholds outcome.Memory parts d before after x low =
+swept_came q n policies outcome.Memory parts d before after x low =
     subst (λ (l : List Part). Came q n None outcome.Memory l (get_or before n d) (get_or after n d)) (sym x.0)
     (none_came q n outcome.Memory d before after x.1)
-swept_came q n thresholds o parts d before after x low = absurd x
-
-sweep_came : (q n : ℕ) (policy : Option (List ℕ)) (o : Outcome) (parts : List Part) (d : Actor)
-    (before after : List Actor) → SweepsBy policy o parts before after → n < length before
-    → Came q n None o parts (get_or before n d) (get_or after n d)
-sweep_came q n None o parts d before after x low = absurd x
-sweep_came q n (Some thresholds) o parts d before after x low = swept_came q n thresholds o parts d before after x low
+swept_came q n policies o parts d before after x low = absurd x
 
 -- ---- any command
 
-by_came : (q n : ℕ) (file : Option ℕ) (policy : Option (List ℕ)) (line : ℕ) (x : Act) (o : Outcome)
-    (parts : List Part) (d : Actor) (before after : List Actor) → ActsBy file policy line x o parts before after
+by_came : (q n : ℕ) (file : Option ℕ) (policies : List (Option (List ℕ))) (line : ℕ) (x : Act) (o : Outcome)
+    (parts : List Part) (d : Actor) (before after : List Actor) → ActsBy file policies line x o parts before after
     → n < length before → stages (get_or before n d).facts ≡ q
     → Came q n file o parts (get_or before n d) (get_or after n d)
-by_came q n (Some file) policy line x o parts d before after h low e =
+by_came q n (Some file) policies line x o parts d before after h low e =
     on_came q n file x o parts d before after h.1 low e
-by_came q n None policy line (act.Lose server) o parts d before after h low e =
+by_came q n None policies line (act.Lose server) o parts d before after h low e =
     subst (λ (l : List Part). Came q n None o l (get_or before n d) (get_or after n d)) (sym h.0)
     (loses_came q n server line o d before after h.1 low)
-by_came q n None policy line act.Sweep o parts d before after h low e =
-    sweep_came q n policy o parts d before after h low
-by_came q n None policy line x o parts d before after h low e = absurd h
+by_came q n None policies line act.Sweep o parts d before after h low e =
+    swept_came q n policies o parts d before after h low
+by_came q n None policies line x o parts d before after h low e = absurd h
 
 -- what a command did to the file with number n: behind a cutting off its calls say what the command tells
 pub record Step (q n : ℕ) (x : Done) (a b : Actor) : Type 0 where
@@ -429,7 +424,7 @@ done_step s q n c x d before after is low e =
     let d' = did (call.cut_off away) d in
     let at : get_or cut n d ≡ did (call.cut_off away) (get_or before n d) =
     get_or-map (did (call.cut_off away)) before n d d low in
-    let came = by_came q n (file_in c.act) s.policy c.line c.act x.outcome x.parts d cut after is.acts
+    let came = by_came q n (file_in c.act) (file_policies s) c.line c.act x.outcome x.parts d cut after is.acts
     (omega (arith, low, long)) (ap (λ (a : Actor). stages a.facts) at ∙ e) in
     let tale = λ (y : Act). tale_in q n (file_in y) x.outcome x.parts in
     let took = λ (y : Act). takes_in n (file_in y) x.outcome in
@@ -455,7 +450,7 @@ done_long : (s : Script) {at : Place} (c : Command) (x : Done) (before after : L
 done_long s c x before after is =
     let share = λ (a : Actor). a.view.share in
     sym (length-map after share)
-    ∙ ap length (acts_shares s.policy c.line c.act x.outcome x.parts (cut_all (away_of c.act) before) after is.acts
+    ∙ ap length (acts_shares (file_policies s) c.line c.act x.outcome x.parts (cut_all (away_of c.act) before) after is.acts
     ∙ cut_shares (away_of c.act) before)
     ∙ length-map before share
 

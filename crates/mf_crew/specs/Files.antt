@@ -5,21 +5,21 @@ use Rattle.mf_places.specs.Facts.{BookFacts}
 use Rattle.mf_lines.specs.declared.parts.FileLine.{FileLine}
 use Rattle.mf_lines.specs.Meaning.{Script, phases_in}
 use Rattle.mf_script.specs.Contents.{bytes_in}
+use Rattle.mf_script.specs.Families.{file_code}
 use Rattle.mf_script.specs.Losses.{losses_of}
 use Rattle.mf_vault.specs.Actor.{Actor}
 use Rattle.mf_plain.specs.Resting.{Resting}
 use Rattle.mf_plain.specs.Alone.{rested}
-use Rattle.mf_client.specs.Clients.{family_of}
 
 -- the script has this phase; phases are numbered from 1
 abbrev pub HasPhase : Script → (phase : ℕ) → Type 0
 HasPhase s phase = (1 ≤ phase) × (phase ≤ length (phases_in s.items))
 
--- what the book lays out of the script's file of this number and this line
+-- what the book lays out of the script's file of this number and this line, by the code of its family
 abbrev pub book_of : Script → ℕ → FileLine → BookFacts
 book_of s n line = record {
-  shape = (family_of s).shape;
-  points = (family_of s).points;
+  shape = (file_code s n).shape;
+  points = (file_code s n).points;
   chunk = s.chunk;
   file = n;
   bytes = length (bytes_in line.content);

@@ -1,5 +1,5 @@
 -- The greatest number below another that passes a test; due stages.
-use Rattle.std.proofs.Common.{◌≡◌, ℕ, zero, suc, ◌+◌, ◌<◌, ◌≤◌, Bool, true, false, cond, leb, List, length, refl, sym}
+use Rattle.std.proofs.Common.{◌≡◌, ℕ, zero, suc, ◌+◌, ◌<◌, ◌≤◌, Bool, true, cond, List, length, refl, sym}
 use Rattle.std.proofs.Common.{ap}
 use Rattle.std.proofs.Common.{◌∙◌, subst, inl, inr, arith}
 use Rattle.std.specs.Prelude.{slice_index}
@@ -63,3 +63,11 @@ is_due thresholds age h = go (length thresholds) refl h.some
           last = λ g lt reached. greatest_last (has_reached thresholds age) (suc n) g (omega arith)
               (le-leb (slice_index thresholds g) age reached);
         })
+
+-- a due stage is one of the stages
+pub due_within : (thresholds : List ℕ) (age : ℕ) → 0 < length thresholds → due_of thresholds age < length thresholds
+due_within thresholds age some = go (length thresholds) some
+  where
+    go : (n : ℕ) → 0 < n → greatest (has_reached thresholds age) n < n
+    go zero some = absurd (omega arith)
+    go (suc n) some = omega (arith, greatest_lt (has_reached thresholds age) n)

@@ -1,8 +1,8 @@
 //! Due stages.
 
-ghost use Rattle.std.specs.Prelude.{◌≡◌, ◌≤◌, ◌==◌, ◌∷◌, ◌++◌, [], not, if◌then◌else◌, length};
-ghost use Rattle.std.specs.Prelude.{IfOk, OnOk};
-ghost use Rattle.mf_policy.specs.Due.{due_of, IsDue, sweep_of};
+ghost use Rattle.std.specs.Prelude.{◌≡◌, ◌<◌, ◌≤◌, ◌==◌, ◌∷◌, ◌++◌, [], not, if◌then◌else◌};
+ghost use Rattle.std.specs.Prelude.{length, All, IfOk, OnOk};
+ghost use Rattle.mf_policy.specs.Due.{due_of, due_by, IsDue, policies_of, sweep_of};
 
 use crate::policy::Policy;
 use std::alloc::{AllocError, Global};
@@ -39,19 +39,34 @@ fn add_due(list: &mut Vec<(u32, u32)>, file: u32, stage: u32) -> Result<(), Allo
     Ok(())
 }
 
-/// The number and the due stage of each file whose due stage isn't 0, by number; the files have
-/// these ages. Fails only where memory runs out.
+// The due stage of a file of this age whose family has this policy, or none.
+fn due_by(policy: &Option<Policy>, age: u64) -> u32
+    ensures { result ≡ due_by policy.now age }
+{
+    match policy {
+        Some(policy) => due(policy, age),
+        None => 0,
+    }
+}
+
+/// The number and the due stage of each file whose due stage isn't 0, by number: the families have
+/// these policies, `of` has the number of each file's family, and `ages` its age. Fails only where
+/// memory runs out.
 pub fn sweep_list(
     alloc: Global,
-    policy: &Policy,
+    policies: &[Option<Policy>],
+    of: &[u32],
     ages: &[u64],
 ) -> Result<Vec<(u32, u32)>, AllocError>
-    requires { length ages.now ≤ 4294967295 }
-    ensures { IfOk result (λ v. v.items ≡ sweep_of policy.now ages.now) }
+    requires few { length ages.now ≤ 4294967295 }
+    requires count { length of.now ≡ length ages.now }
+    requires families { All (λ family. family < length policies.now) of.now }
+    ensures { IfOk result (λ v. v.items ≡ sweep_of (policies_of policies.now of.now) ages.now) }
 {
     let mut list = Vec::new(alloc);
     for file in 0..ages.len() {
-        add_due(&mut list, file as u32, due(policy, ages[file]))?;
+        let policy = &policies[of[file] as usize];
+        add_due(&mut list, file as u32, due_by(policy, ages[file]))?;
     }
     Ok(list)
 }

@@ -4,10 +4,10 @@ ghost use Rattle.std.specs.Prelude.{◌≡◌, ◌++◌, IfOk, OnOk};
 ghost use Rattle.std.specs.List.{flat_map};
 ghost use Rattle.std.specs.String.{string_bytes};
 ghost use Rattle.mf_shape.specs.Chain.{IsShape};
-ghost use Rattle.mf_report.specs.Verdicts.{tolerance_text, accepted_text};
+ghost use Rattle.mf_report.specs.Verdicts.{tolerance_text, family_line, accepted_text};
 ghost use Rattle.mf_report.specs.Verdicts.{refused_text, too_long, words_refusal};
 
-use mf_script::ScriptFault;
+use mf_script::{Script, ScriptFault};
 use mf_shape::Shape;
 use std::alloc::{AllocError, Global};
 use std::fmt;
@@ -25,18 +25,30 @@ fn write_tolerances(line: &mut String, shape: &Shape) -> Result<(), AllocError>
     Ok(())
 }
 
-/// The line of an accepted family of this shape: `family ok stages Q tolerance T ..`, where Q is
-/// the number of stages, and each T how many lost names of one stripe a stage bears, stage 0 first.
-/// Fails only for want of memory.
+// The line of an accepted family of this shape.
 #[tactic(auto, using(std::proofs::lemmas::List::append_assoc))]
-pub fn accepted_line(alloc: Global, shape: &Shape) -> Result<Vec<u8>, AllocError>
-    ensures { IfOk result (λ line. line.items ≡ accepted_text shape.now.stages) }
+fn family_line(alloc: Global, shape: &Shape) -> Result<String, AllocError>
+    ensures { IfOk result (λ line. string_bytes line ≡ family_line shape.now.stages) }
 {
     let stages = shape.stages().len();
     let mut line = format!(in alloc; "family ok stages {stages} tolerance")?;
     write_tolerances(&mut line, shape)?;
     line.push('\n')?;
-    Ok(line.into_bytes())
+    Ok(line)
+}
+
+/// The lines of a script's families, one a family: `family ok stages Q tolerance T ..`, where Q is
+/// the number of its stages, and each T how many lost names of one stripe a stage bears, stage 0
+/// first. Fails only for want of memory.
+pub fn accepted_lines(alloc: Global, script: &Script) -> Result<Vec<u8>, AllocError>
+    ensures { IfOk result (λ lines. lines.items ≡ accepted_text script.now.families) }
+{
+    let mut lines = String::new(alloc);
+    for i in 0..script.families() {
+        let line = family_line(alloc, script.family(i).shape())?;
+        lines.push_str(&line)?;
+    }
+    Ok(lines.into_bytes())
 }
 
 // A refusal, without its line's end.

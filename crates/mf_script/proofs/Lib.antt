@@ -8,6 +8,7 @@ pub mod PhaseLemmas
 pub mod PolicyLemmas
 pub mod ClientLemmas
 pub mod ScriptLemmas
+pub mod FamilyLemmas
 pub mod Limits
 pub mod Known
 pub mod SoundLemmas

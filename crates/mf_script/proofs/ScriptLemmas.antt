@@ -162,53 +162,6 @@ module _ (text : List ℕ) (draft : Draft) (read : read_text text ≡ Ok (so_in 
           (All-nil (λ (named : NamedFamily). named.family.shape.servers ≡ draft.servers)));
     }
 
--- ---- the family, and that of a file
-
--- each file belongs to the first family
-abbrev firsts : List FileLine → List ℕ
-firsts files = map (λ file. 0) files
-
-zeros : (files : List FileLine) (i : ℕ) → get_or (firsts files) i 0 ≡ 0
-zeros [] i = refl
-zeros (f ∷ files) zero = refl
-zeros (f ∷ files) (suc i) = zeros files i
-
-module _ (servers chunk : ℕ) (policy : Option (List ℕ)) (files : List FileLine) (file_families : List ℕ)
-    (items : List Item) (dumps : List ℕ) where
-  -- what a script says that has these families
-  abbrev of : List NamedFamily → Script
-  of families = script_with servers chunk families policy files file_families items dumps
-
-  pub has_main : (families : List NamedFamily) → HasOne (of families) → 0 < length families
-  has_main [] one = absurd (let none = one.families in cc)
-  has_main (named ∷ families) one = omega arith
-
-  pub main_is : (families : List NamedFamily) (named : NamedFamily)
-      → All (λ (n : NamedFamily). n.family.shape.servers ≡ servers) families
-      → 0 < length families → named ≡ get_or families 0 named
-      → named.family ≡ code_of (of families) (main_of (of families))
-  main_is [] named over some is = absurd (omega arith)
-  main_is (n ∷ families) named over some is =
-      ap (λ (x : NamedFamily). x.family) is
-      ∙ (λ i. record {
-        shape =
-            record { stages = n.family.shape.stages; servers = over 0 n some i };
-        points = n.family.points;
-      })
-
-  -- each file has a family's number, which is 0
-  pub home_within : (families : List NamedFamily) (file : ℕ) → HasOne (of families) → file < length files
-      → file < length file_families
-  home_within families file one within = omega (arith, ap length one.file_families, long)
-    where
-      long : length (firsts files) ≡ length files
-      long = length-map files (λ f. 0)
-
-  pub home_is : (families : List NamedFamily) (file : ℕ) → HasOne (of families) → file < length files
-      → get_or file_families file 0 ≡ 0
-  home_is families file one within =
-      ap (λ hs. get_or hs file 0) one.file_families ∙ zeros files file
-
 -- ---- what is printed is read again
 
 pub if_ok-map : {T E : Type 0} (r : Result T E) (P Q : T → Type 0) → ((x : T) → P x → Q x) → IfOk r P → IfOk r Q

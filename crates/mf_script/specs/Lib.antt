@@ -2,6 +2,7 @@ pub mod Contents
 pub mod Texts
 pub mod Passes
 pub mod Scripts
+pub mod Families
 pub mod Phases
 pub mod Losses
 pub mod Faults

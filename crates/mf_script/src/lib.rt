@@ -32,6 +32,7 @@
 #![tactic(auto)]
 
 mod contents;
+mod families;
 mod laws;
 mod losses;
 mod phases;

@@ -49,44 +49,18 @@ impl Model for Script {
 }
 
 impl Script {
-    ghost use Rattle.std.specs.Prelude.{◌≡◌, ◌<◌, ◌≤◌, length, slice_index, option_copied};
-    ghost use Rattle.std.specs.Prelude.{IfOk, IfSome};
-    ghost use Rattle.mf_lines.specs.Meaning.{main_of, phases_in};
-    ghost use Rattle.mf_script.specs.Scripts.{code_of};
+    ghost use Rattle.std.specs.Prelude.{◌≡◌, ◌≤◌, length};
+    ghost use Rattle.std.specs.Prelude.{IfOk};
+    ghost use Rattle.mf_lines.specs.Meaning.{phases_in};
     ghost use Rattle.mf_script.specs.Sound.{IsSound};
     ghost use Rattle.mf_script.specs.Losses.{losses_of};
     ghost use Rattle.mf_script.specs.Phases.{clients_of, ticks_before};
-
-    /// The family, to which every file belongs.
-    pub fn family(&self) -> &Family
-        ensures { result.now ≡ code_of self.now (main_of self.now) }
-    {
-        &self.families.as_slice()[0].family
-    }
-
-    /// The number of a file's family.
-    pub fn family_of(&self, file: u32) -> u32
-        requires { file < length self.now.files }
-        ensures number { result ≡ slice_index self.now.file_families file }
-        ensures family { result < length self.now.families }
-    {
-        self.file_families.as_slice()[file as usize]
-    }
 
     /// The chunk size in bytes.
     pub fn chunk(&self) -> u32
         ensures { result ≡ self.now.chunk }
     {
         self.chunk
-    }
-
-    /// The policy, if there is one. It has a threshold for each stage.
-    pub fn policy(&self) -> Option<&Policy>
-        ensures value { option_copied result ≡ self.now.policy }
-        ensures stages { IfSome self.now.policy
-            (λ thresholds. length thresholds ≡ length (main_of self.now).stages) }
-    {
-        self.policy.as_ref()
     }
 
     /// The files, by their numbers.

@@ -8,7 +8,7 @@ use Rattle.std.specs.List.{list_any}
 use Rattle.std.proofs.lemmas.Bool.{cases_Bool, cond-true, cond-false}
 use Rattle.mf_lines.specs.declared.parts.Kind.TheVariants as kind
 use Rattle.mf_lines.specs.declared.parts.ScriptFault.{ScriptFault}
-use Rattle.mf_lines.specs.Meaning.{Script, main_of}
+use Rattle.mf_lines.specs.Meaning.{Script}
 use Rattle.mf_script.specs.Faults.{IsScriptFault}
 use Rattle.mf_script.specs.Scripts.{IsScript}
 use Rattle.mf_plain.specs.Resting.{Resting}
@@ -138,7 +138,7 @@ ran_front json o text s done mine files theirs run first rests left =
 
 -- ---- the answers to a check, and to a text that is no script
 
-pub accepted_read : (text answer : List ℕ) (s : Script) → IsScript text s → answer ≡ accepted_text (main_of s).stages
+pub accepted_read : (text answer : List ℕ) (s : Script) → IsScript text s → answer ≡ accepted_text s.families
     → IsAnswer (task_words Check) text 0 answer
 accepted_read text answer s is e = subst (IsAnswer (task_words Check) text 0) (sym e) (accepted s is)
 

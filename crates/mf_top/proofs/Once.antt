@@ -7,7 +7,7 @@ use Rattle.std.specs.List.{list_any}
 use Rattle.std.proofs.lemmas.Bool.{or_parts}
 use Rattle.std.proofs.lemmas.List.Elements.{All-nil, All-cons, All-head, All-tail, All-map, All-from_get_or}
 use Rattle.mf_lines.specs.declared.parts.ScriptFault.{ScriptFault}
-use Rattle.mf_lines.specs.Meaning.{Script, main_of, phases_in}
+use Rattle.mf_lines.specs.Meaning.{Script, phases_in}
 use Rattle.mf_script.specs.Losses.{losses_of}
 use Rattle.mf_script.specs.Phases.{clients_of, ticks_before}
 use Rattle.mf_script.specs.Scripts.{IsScript}
@@ -122,7 +122,7 @@ record Tried (words : List (List ℕ)) (text : List ℕ) (m : ℕ) (x : List ℕ
   asks : words ≡ task_words Check
   read : IsScript text script
   status : m ≡ 0
-  is : x ≡ accepted_text (main_of script).stages
+  is : x ≡ accepted_text script.families
 
 record Faulty (words : List (List ℕ)) (text : List ℕ) (m : ℕ) (x : List ℕ) : Type 0 where
   task : Task
@@ -266,7 +266,7 @@ alike words text m n x y none plain (by_run a) (by_words b) one other = absurd (
 alike words text m n x y none plain (by_check a) (by_run b) one other = absurd (apart b.json (sym b.asks ∙ a.asks))
 alike words text m n x y none plain (by_check a) (by_check b) one other =
     let script : a.script ≡ b.script = scripts_are.script text a.script b.script a.read b.read in
-    (a.status ∙ sym b.status, inl (a.is ∙ ap (λ (s : Script). accepted_text (main_of s).stages) script ∙ sym b.is))
+    (a.status ∙ sym b.status, inl (a.is ∙ ap (λ (s : Script). accepted_text s.families) script ∙ sym b.is))
 alike words text m n x y none plain (by_check a) (by_fault b) one other = absurd
     (no_script text a.script b.fault a.read b.refused)
 alike words text m n x y none plain (by_check a) (by_words b) one other = absurd (b.asks.0 Check a.asks)

@@ -9,6 +9,7 @@ use Rattle.std.proofs.lemmas.List.Sums.{sum_by-le}
 use Rattle.std.proofs.lemmas.List.Elements.{All-nil, All-cons, All-append, All-filter, All-map, filter_passes}
 use Rattle.mf_places.specs.Facts.{BookFacts}
 use Rattle.mf_places.specs.Names.{count_of}
+use Rattle.mf_script.specs.Families.{file_policies}
 use Rattle.mf_vault.specs.Texts.{io_text, io_numbers}
 use Rattle.mf_places.specs.Servers.{no_servers}
 use Rattle.mf_text.specs.Decimal.{decimal_text}
@@ -35,7 +36,7 @@ use Rattle.mf_client.specs.declared.done.Outcome.{Outcome}
 use Rattle.mf_client.specs.declared.done.Outcome.TheVariants as outcome
 use Rattle.mf_client.specs.declared.done.Part.{Part}
 use Rattle.mf_client.specs.declared.done.Place.{Place}
-use Rattle.mf_client.specs.Acts.{Acts, SweepsBy, IsConverted, away_of, cut_all}
+use Rattle.mf_client.specs.Acts.{Acts, IsConverted, away_of, cut_all}
 use Rattle.mf_client.specs.Sweeps.{Visit, ConvertsInTurn, VisitsInTurn, IsSwept}
 use Rattle.mf_client.specs.Clients.{commands_of}
 use Rattle.mf_client.specs.Runs.{IsDone, RunsFrom, gained, io_gained}
@@ -158,31 +159,26 @@ visits_gain (v ∷ vs) before after h =
     (all_set before v.file on.old on.new on.was (turn_gains v.due v.changes on.old on.new on.goes.converts)) in
     all_then before h.0 after first (visits_gain vs h.0 after h.2)
 
-swept_gains : (ts : List ℕ) (o : Outcome) (parts : List Part) (before after : List Actor)
-    → IsSwept ts o parts before after → AllGain before after
-swept_gains ts (outcome.Swept n) parts before after h = visits_gain h.visits before after h.turn
-swept_gains ts outcome.Memory parts before after h = subst (AllGain before) (sym h.1) (all_nothing before)
-swept_gains ts other parts before after h = absurd h
-
-swept_by : (policy : Option (List ℕ)) (o : Outcome) (parts : List Part) (before after : List Actor)
-    → SweepsBy policy o parts before after → AllGain before after
-swept_by None o parts before after h = absurd h
-swept_by (Some ts) o parts before after h = swept_gains ts o parts before after h
+swept_gains : (policies : List (Option (List ℕ))) (o : Outcome) (parts : List Part) (before after : List Actor)
+    → IsSwept policies o parts before after → AllGain before after
+swept_gains policies (outcome.Swept n) parts before after h = visits_gain h.visits before after h.turn
+swept_gains policies outcome.Memory parts before after h = subst (AllGain before) (sym h.1) (all_nothing before)
+swept_gains policies other parts before after h = absurd h
 
 -- of a command that converts
-act_none : (policy : Option (List ℕ)) (line : ℕ) (x : Act) (o : Outcome) (parts : List Part)
-    (before after : List Actor) → Acts policy line x o parts (cut_all (away_of x) before) after → converts x ≡ true
+act_none : (policies : List (Option (List ℕ))) (line : ℕ) (x : Act) (o : Outcome) (parts : List Part)
+    (before after : List Actor) → Acts policies line x o parts (cut_all (away_of x) before) after → converts x ≡ true
     → NoData (io_gained before after)
-act_none policy line (act.Convert file away stop) o parts before after h is =
+act_none policies line (act.Convert file away stop) o parts before after h is =
     let on = h.1 in
     let cut = cut_all away before in
     let gain : AllGain cut after = subst (AllGain cut) (sym on.is)
     (all_set cut file on.old on.new on.was (converted_gains stop o on.old on.new on.goes)) in
     subst NoData (io_cut away before after) (all_none cut after gain)
-act_none policy line act.Sweep o parts before after h is =
+act_none policies line act.Sweep o parts before after h is =
     let cut = cut_all no_servers before in
-    subst NoData (io_cut no_servers before after) (all_none cut after (swept_by policy o parts cut after h))
-act_none policy line other o parts before after h is = absurd cc
+    subst NoData (io_cut no_servers before after) (all_none cut after (swept_gains policies o parts cut after h))
+act_none policies line other o parts before after h is = absurd cc
 
 -- if a command converts
 Fine : Done → Type 0
@@ -193,7 +189,7 @@ done_fine : (s : Script) (at : Place) (c : Command) (d : Done) (before after : L
 unfolding Fine
 done_fine s at c d before after h is =
     subst NoData (sym h.io)
-    (act_none s.policy c.line c.act d.outcome d.parts before after h.acts (ap converts (sym h.act) ∙ is))
+    (act_none (file_policies s) c.line c.act d.outcome d.parts before after h.acts (ap converts (sym h.act) ∙ is))
 
 run_fine : (s : Script) (p c k : ℕ) (commands : List Command) (before : List Actor) (done : List Done)
     (after : List Actor) → RunsFrom s p c k commands before done after → All Fine done

@@ -4,7 +4,7 @@ use Rattle.std.specs.List.{list_any}
 use Rattle.mf_text.specs.Decimal.{decimal_text}
 use Rattle.mf_lines.specs.declared.parts.Kind.TheVariants as kind
 use Rattle.mf_lines.specs.declared.parts.ScriptFault.{ScriptFault}
-use Rattle.mf_lines.specs.Meaning.{Script, main_of}
+use Rattle.mf_lines.specs.Meaning.{Script}
 use Rattle.mf_script.specs.Faults.{IsScriptFault}
 use Rattle.mf_script.specs.Scripts.{IsScript}
 use Rattle.mf_script.specs.Seeds.{seed_text}
@@ -57,8 +57,8 @@ pub record IsRun (text : List ℕ) (s : Script) (done : List Done) (files : List
   pub left : AreOfLines s files
 
 -- The status of an answer, and its bytes. With `run` a script has the report of its run, as lines or as JSON: with
--- status 0 where no command lacked memory, and with 5 where one did. With `check` it has the line of its family. Any
--- other text has the line of its fault. With `seed` the script of the seed has the line that sums up its run, with
+-- status 0 where no command lacked memory, and with 5 where one did. With `check` it has the lines of its families.
+-- Any other text has the line of its fault. With `seed` the script of the seed has the line that sums up its run, with
 -- status 0 or 5 as with `run`, whatever the text is. Other words have the line that refuses them, whatever the text is.
 pub data IsAnswer : List (List ℕ) → List ℕ → ℕ → List ℕ → Type 0 where
   reported : {text : List ℕ} (json : Bool) (s : Script) (done : List Done) (files : List Resting)
@@ -68,7 +68,7 @@ pub data IsAnswer : List (List ℕ) → List ℕ → ℕ → List ℕ → Type 0
       → IsRun text s done files → list_any lacks_memory done ≡ true
       → IsAnswer (task_words (Run json)) text 5 (written_text json s done files)
   accepted : {text : List ℕ} (s : Script) → IsScript text s
-      → IsAnswer (task_words Check) text 0 (accepted_text (main_of s).stages)
+      → IsAnswer (task_words Check) text 0 (accepted_text s.families)
   refused : {text : List ℕ} (task : Task) (fault : ScriptFault) → IsRefused text fault
       → IsAnswer (task_words task) text 1 (refused_text fault)
   summed : {text : List ℕ} (n : ℕ) (s : Script) (done : List Done) (files : List Resting) → n < 2 ^ 64

@@ -14,7 +14,7 @@ use crate::writing::write_answer;
 use crate::{Status, Task};
 use mf_client::{Done, Turnstile};
 use mf_io::Sink;
-use mf_report::{ReportFault, accepted_line, refused_line, report};
+use mf_report::{ReportFault, accepted_lines, refused_line, report};
 use mf_script::{Kind, Script, ScriptFault, read_script};
 use std::alloc::Global;
 use std::sync::Wait;
@@ -43,7 +43,7 @@ pub fn answer_to_run<R: Threads + Wait + Sync, K: Sink, T: Turnstile>(
     }
 }
 
-/// Writes the line of the family of the script that the text is, or what is wrong with the text.
+/// Writes the lines of the families of the script that the text is, or what is wrong with the text.
 /// Says with which status the call ends.
 pub fn answer_to_check<K: Sink>(alloc: Global, text: &[u8], sink: &mut K) -> Status
     ensures { Writes (record {
@@ -105,7 +105,7 @@ fn lack_memory(done: &[Done]) -> bool
     done.iter().any(|command| command.lacks_memory())
 }
 
-// Writes the line of the script's family.
+// Writes the lines of the script's families.
 fn answer_check<K: Sink>(alloc: Global, script: &Script, sink: &mut K) -> Status
     ensures { (text : List ℕ) → IsScript text script.now
         → Writes (record {
@@ -115,8 +115,8 @@ fn answer_check<K: Sink>(alloc: Global, script: &Script, sink: &mut K) -> Status
           faults_now = K.faults sink.new;
         }) (task_words Task.Check) text result }
 {
-    match accepted_line(alloc, script.family().shape()) {
-        Ok(line) => write_answer(sink, &line, Status::Done),
+    match accepted_lines(alloc, script) {
+        Ok(lines) => write_answer(sink, &lines, Status::Done),
         Err(_) => Status::Memory,
     }
 }

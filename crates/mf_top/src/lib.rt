@@ -58,7 +58,7 @@ const TEXT_LIMIT: usize = 1_048_576;
 enum Task {
     /// To run a script, and to write the report as JSON or as lines.
     Run { json: bool },
-    /// To try the family of a script.
+    /// To try the families of a script.
     Check,
 }
 
@@ -128,9 +128,9 @@ pub fn morph<R: Threads + Wait + Sync, S: Source, K: Sink, T: Turnstile>(
     end_of(rt, alloc, words, source, sink, turnstile) as u8
 }
 
-/// Tries the family of the script that the source has left. It writes one line: `family ok stages
-/// Q tolerance T ..` with the tolerance of each stage, or `refused line L ` and what is wrong
-/// there. It answers the status of `morph` with the word `check`: 0, 1, 3, 4 or 5.
+/// Tries the families of the script that the source has left. It writes a line for each, `family ok
+/// stages Q tolerance T ..` with the tolerance of each stage, or the one line `refused line L ` and
+/// what is wrong there. It answers the status of `morph` with the word `check`: 0, 1, 3, 4 or 5.
 pub fn morph_check<S: Source, K: Sink>(alloc: Global, source: &mut S, sink: &mut K) -> u8
     ensures { (status : Status) × (result ≡ number_of status) × Ends (record {
       words = task_words Task.Check;

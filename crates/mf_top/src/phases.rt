@@ -96,7 +96,7 @@ fn new_file(alloc: Global, script: &Script, n: u32, line: &FileLine) -> Result<P
 {
     let content = content_bytes(alloc, &line.content)?;
     let bytes = content.as_slice();
-    let family = script.family();
+    let family = script.family(script.family_of(n));
     let book = Book::new(
         alloc,
         family.shape(),

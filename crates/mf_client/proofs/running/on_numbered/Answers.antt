@@ -3,6 +3,7 @@ use Rattle.std.proofs.lemmas.List.{length-map, get_or-map, map-set}
 use Rattle.mf_check.specs.Families.{Code}
 use Rattle.mf_lines.specs.declared.parts.FileLine.{FileLine}
 use Rattle.mf_script.specs.Contents.{bytes_in}
+use Rattle.mf_script.specs.Families.{code_at}
 use Rattle.mf_vault.specs.Actor.{Actor}
 use Rattle.mf_vault.specs.Conditions.{IsIdle, IsOfFamily}
 use Rattle.mf_vault.specs.Counting.{io_of}
@@ -25,7 +26,7 @@ on_file-requires-clause-family g c =
     c.index-accesses-file.result c.index-files-file.result x (x.file c.args.file c.requires.file) in
     subst (λ (code : Code). IsOfFamily code.shape code.points
     (g.A.Access.actor (get_or c.args.accesses.now c.args.file c.index-accesses-file.result)).facts.book)
-    (sym c.family.ensures) is.family
+    (sym (c.family-family.ensures ∙ ap (code_at c.args.script.now) c.family_of.ensures.number)) is.family
 
 pub on_file-requires-clause-bytes : goal.on_file-requires-clause-bytes
 on_file-requires-clause-bytes g c =

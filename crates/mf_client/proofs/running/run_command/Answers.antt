@@ -1,5 +1,6 @@
 use Rattle.std.proofs.Common.{sym, ap, ◌∙◌, ◌≡◌, refl, subst, map, List, All}
 use Rattle.mf_places.specs.declared.servers.Servers.{Servers}
+use Rattle.mf_script.specs.Families.{file_policies}
 use Rattle.mf_vault.specs.Actor.{Actor}
 use Rattle.mf_client.specs.declared.done.Part.{Part}
 use Rattle.mf_client.specs.Acts.{Acts, away_of, cut_all}
@@ -30,9 +31,9 @@ returns g c =
     record {
       place = refl;
       act = refl;
-      acts = subst (λ (l : List Part). Acts c.args.script.now.policy c.args.command.line c.args.command.act o l
+      acts = subst (λ (l : List Part). Acts (file_policies c.args.script.now) c.args.command.line c.args.command.act o l
           (cut_all (away_of c.args.command.act) old) now) (sym parts)
-          (subst (λ (l : List Actor). Acts c.args.script.now.policy c.args.command.line c.args.command.act o
+          (subst (λ (l : List Actor). Acts (file_policies c.args.script.now) c.args.command.line c.args.command.act o
           c.act-came.result.parts.items l now) cut
           c.act-came.ensures.acts);
       io = c.act-came.ensures.io ∙ ap (λ l. io_gained l now) cut

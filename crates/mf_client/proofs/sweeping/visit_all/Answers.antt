@@ -2,7 +2,8 @@ use Rattle.std.proofs.Common.{◌*◌, ◌<◌, [], sym, ap, ◌∙◌, subst, m
 use Rattle.std.proofs.Common.{length}
 use Rattle.std.specs.Prelude.{slice_index_or}
 use Rattle.std.proofs.lemmas.List.{length-map, get_or-map, map-set, take_more}
-use Rattle.std.proofs.Math.Nat.{add-mul}
+use Rattle.mf_check.specs.Families.{Code}
+use Rattle.mf_script.specs.Families.{code_at, file_code}
 use Rattle.mf_vault.specs.Actor.{Actor}
 use Rattle.mf_vault.specs.Conditions.{IsOfFamily}
 use Rattle.mf_vault.specs.Counting.{io_of}
@@ -33,17 +34,21 @@ visit-requires-clause-idle g c =
     let xs = c.loop-file.accesses in
     let k = c.loop-file.file-index in
     let dues = c.args.dues.now in
-    let most = length c.args.family.now.shape.stages in
+    let s = c.args.script.now in
     let lt = c.loop-file-test.true in
     let due = c.requires.due k (0, 0) (omega arith) in
     let file = (slice_index_or dues k (0, 0)).0 in
-    let long = c.loop-file.auto.accesses in
-    let low : file < length xs = omega arith in
+    let low : file < length xs = omega (
+      arith,
+      due.file,
+      c.loop-file.auto.accesses,
+      c.requires.families.count,
+      length-map old f,
+    ) in
     let d = c.index-accesses-file.result in
     let v = c.loop-file.invariant.visited in
-    let passed = visited_passed dues k (length old) most (map f old) (map f xs) [] c.loop-file.parts.items
-    c.requires.due
-    c.requires.stages c.requires.idle (filed (map f old) (all_kept f old (λ x. g.met.A.Access.kept x))) v in
+    let passed = visited_passed s dues k (map f old) (map f xs) [] c.loop-file.parts.items c.requires.due
+    c.requires.idle (filed (map f old) (all_kept f old (λ x. g.met.A.Access.kept x))) v in
     all_at Rattle.mf_vault.specs.Conditions.IsIdle f xs file d passed.idle low
 
 pub visit-requires-clause-family : goal.visit-requires-clause-family
@@ -53,22 +58,27 @@ visit-requires-clause-family g c =
     let xs = c.loop-file.accesses in
     let k = c.loop-file.file-index in
     let dues = c.args.dues.now in
-    let most = length c.args.family.now.shape.stages in
+    let s = c.args.script.now in
     let lt = c.loop-file-test.true in
     let due = c.requires.due k (0, 0) (omega arith) in
     let file = (slice_index_or dues k (0, 0)).0 in
-    let long = c.loop-file.auto.accesses in
-    let low : file < length xs = omega arith in
+    let low : file < length xs = omega (
+      arith,
+      due.file,
+      c.loop-file.auto.accesses,
+      c.requires.families.count,
+      length-map old f,
+    ) in
     let d = c.index-accesses-file.result in
     let v = c.loop-file.invariant.visited in
-    let passed = visited_passed dues k (length old) most (map f old) (map f xs) [] c.loop-file.parts.items
-    c.requires.due
-    c.requires.stages c.requires.idle (filed (map f old) (all_kept f old (λ x. g.met.A.Access.kept x))) v in
+    let passed = visited_passed s dues k (map f old) (map f xs) [] c.loop-file.parts.items c.requires.due
+    c.requires.idle (filed (map f old) (all_kept f old (λ x. g.met.A.Access.kept x))) v in
     let e = length-map xs f in
-    subst (λ (a : Actor). IsOfFamily c.args.family.now.shape c.args.family.now.points a.facts.book)
+    let code = c.family-family.ensures ∙ ap (code_at s) c.family_of.ensures.number in
+    subst (λ (x : Code). IsOfFamily x.shape x.points (f (get_or xs file d)).facts.book) (sym code)
+    (subst (λ (a : Actor). IsOfFamily (file_code s file).shape (file_code s file).points a.facts.book)
     (get_or-map f xs file d (f d) low)
-    (family_at c.args.family.now.shape c.args.family.now.points (map f old) (map f xs) file (f d) c.requires.family
-    passed.facts (omega arith))
+    (family_at s (map f old) (map f xs) file (f d) c.requires.families passed.facts (omega arith)))
 
 pub visit-requires-clause-due : goal.visit-requires-clause-due
 visit-requires-clause-due g c =
@@ -77,24 +87,37 @@ visit-requires-clause-due g c =
     let xs = c.loop-file.accesses in
     let k = c.loop-file.file-index in
     let dues = c.args.dues.now in
-    let most = length c.args.family.now.shape.stages in
+    let s = c.args.script.now in
     let lt = c.loop-file-test.true in
     let due = c.requires.due k (0, 0) (omega arith) in
     let file = (slice_index_or dues k (0, 0)).0 in
-    let long = c.loop-file.auto.accesses in
-    let low : file < length xs = omega arith in
+    let low : file < length xs = omega (
+      arith,
+      due.file,
+      c.loop-file.auto.accesses,
+      c.requires.families.count,
+      length-map old f,
+    ) in
     let d = c.index-accesses-file.result in
     let v = c.loop-file.invariant.visited in
-    let passed = visited_passed dues k (length old) most (map f old) (map f xs) [] c.loop-file.parts.items
-    c.requires.due
-    c.requires.stages c.requires.idle (filed (map f old) (all_kept f old (λ x. g.met.A.Access.kept x))) v in
+    let passed = visited_passed s dues k (map f old) (map f xs) [] c.loop-file.parts.items c.requires.due
+    c.requires.idle (filed (map f old) (all_kept f old (λ x. g.met.A.Access.kept x))) v in
     let e = length-map xs f in
-    stage_at c.args.family.now.shape c.args.family.now.points (f (get_or xs file d)).facts
+    stage_at (file_code s file).shape (file_code s file).points (f (get_or xs file d)).facts
     (slice_index_or dues k (0, 0)).1
-    (subst (λ (a : Actor). IsOfFamily c.args.family.now.shape c.args.family.now.points a.facts.book)
+    (subst (λ (a : Actor). IsOfFamily (file_code s file).shape (file_code s file).points a.facts.book)
     (get_or-map f xs file d (f d) low)
-    (family_at c.args.family.now.shape c.args.family.now.points (map f old) (map f xs) file (f d) c.requires.family
-    passed.facts (omega arith))) due.1
+    (family_at s (map f old) (map f xs) file (f d) c.requires.families passed.facts (omega arith))) due.stage
+
+pub visit-requires-clause-room : goal.visit-requires-clause-room
+visit-requires-clause-room g c =
+    let k = c.loop-file.file-index in
+    let lt = c.loop-file-test.true in
+    let due = c.requires.due k (0, 0) (omega arith) in
+    let stage = due.few in
+    let room = c.loop-file.invariant.room in
+    let capacity = c.loop-file.invariant.capacity in
+    let all = c.requires.room in omega arith
 
 pub plus-io-requires : goal.plus-io-requires
 plus-io-requires g c =
@@ -103,19 +126,22 @@ plus-io-requires g c =
     let xs = c.loop-file.accesses in
     let k = c.loop-file.file-index in
     let dues = c.args.dues.now in
-    let most = length c.args.family.now.shape.stages in
+    let s = c.args.script.now in
     let lt = c.loop-file-test.true in
     let due = c.requires.due k (0, 0) (omega arith) in
     let file = (slice_index_or dues k (0, 0)).0 in
-    let long = c.loop-file.auto.accesses in
-    let low : file < length xs = omega arith in
+    let low : file < length xs = omega (
+      arith,
+      due.file,
+      c.loop-file.auto.accesses,
+      c.requires.families.count,
+      length-map old f,
+    ) in
     let d = c.index-accesses-file.result in
     let v = c.loop-file.invariant.visited in
-    let passed = visited_passed dues k (length old) most (map f old) (map f xs) [] c.loop-file.parts.items
-    c.requires.due
-    c.requires.stages c.requires.idle (filed (map f old) (all_kept f old (λ x. g.met.A.Access.kept x))) v in
-    let stage = due.1 in
-    let stages = c.requires.stages in
+    let passed = visited_passed s dues k (map f old) (map f xs) [] c.loop-file.parts.items c.requires.due
+    c.requires.idle (filed (map f old) (all_kept f old (λ x. g.met.A.Access.kept x))) v in
+    let stage = due.few in
     let kept = g.met.A.Access.kept (get_or xs file d) in
     let few = visits_few dues k (map f old) (map f xs) [] c.loop-file.parts.items v in
     let all = c.requires.few in
@@ -133,22 +159,25 @@ loop-file-preserved g c =
     let xs = c.loop-file.accesses in
     let k = c.loop-file.file-index in
     let dues = c.args.dues.now in
-    let most = length c.args.family.now.shape.stages in
+    let s = c.args.script.now in
     let lt = c.loop-file-test.true in
     let due = c.requires.due k (0, 0) (omega arith) in
     let file = (slice_index_or dues k (0, 0)).0 in
-    let long = c.loop-file.auto.accesses in
-    let low : file < length xs = omega arith in
+    let low : file < length xs = omega (
+      arith,
+      due.file,
+      c.loop-file.auto.accesses,
+      c.requires.families.count,
+      length-map old f,
+    ) in
     let d = c.index-accesses-file.result in
     let v = c.loop-file.invariant.visited in
-    let passed = visited_passed dues k (length old) most (map f old) (map f xs) [] c.loop-file.parts.items
-    c.requires.due
-    c.requires.stages c.requires.idle (filed (map f old) (all_kept f old (λ x. g.met.A.Access.kept x))) v in
+    let passed = visited_passed s dues k (map f old) (map f xs) [] c.loop-file.parts.items c.requires.due
+    c.requires.idle (filed (map f old) (all_kept f old (λ x. g.met.A.Access.kept x))) v in
     let e = length-map xs f in
     let n = (slice_index_or dues k (0, 0)).1 in
     let y = c.visit.new.access in
-    let stage = due.1 in
-    let stages = c.requires.stages in
+    let stage = due.few in
     let on = on_visited f xs file n d y c.loop-file.parts.items c.visit.new.parts.items low c.visit.ensures.visited in
     let next = visited_passes file n (map f xs) (map f (set xs file y)) c.loop-file.parts.items
     c.visit.new.parts.items (omega arith) passed.idle passed.filed on in
@@ -157,7 +186,6 @@ loop-file-preserved g c =
     let room = c.loop-file.invariant.room in
     let capacity = c.loop-file.invariant.capacity in
     let still = c.visit.ensures.capacity in
-    let product = add-mul k 1 most in
     record {
       visited = subst (λ l. VisitedAll l (map f old) (map f (set xs file y)) [] c.visit.new.parts.items)
           (sym (take_more dues k (0, 0) (omega arith)))

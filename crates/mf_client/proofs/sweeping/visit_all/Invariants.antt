@@ -8,6 +8,6 @@ invariant-loop-file g l = record {
   visited : VisitedAll (take l.file-index l.dues) (map g.A.Access.actor l.fn.accesses) (map g.A.Access.actor l.accesses)
       [] l.parts.items;
   io : l.io ≡ io_gained (map g.A.Access.actor l.fn.accesses) (map g.A.Access.actor l.accesses);
-  room : length l.parts.items ≤ l.file-index * length l.family.shape.stages;
+  room : length l.parts.items ≤ l.file-index * 4;
   capacity : vec_capacity l.fn.parts ≤ vec_capacity l.parts;
 }

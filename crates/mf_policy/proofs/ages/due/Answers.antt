@@ -1,5 +1,5 @@
-use Rattle.std.proofs.Common.{◌≡◌, ◌+◌, ◌∙◌, List, ℕ, ap, sym, subst, cond, arith, leb, length, get_or}
-use Rattle.mf_policy.specs.Due.{greatest, has_reached, due_of, IsDue}
+use Rattle.std.proofs.Common.{◌≡◌, ◌∙◌, List, ℕ, ap, sym, subst, cond, arith, leb, length, get_or}
+use Rattle.mf_policy.specs.Due.{greatest, has_reached, IsDue}
 use Rattle.mf_policy.proofs.Greatest.{greatest_next, is_due}
 use Rattle.mf_policy.proofs.ages.due.Goals as goal
 

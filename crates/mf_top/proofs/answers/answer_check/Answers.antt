@@ -1,7 +1,4 @@
-use Rattle.std.proofs.Common.{ap, ◌∙◌}
-use Rattle.mf_shape.specs.Chain.{Chain}
-use Rattle.mf_check.specs.Families.{Code}
-use Rattle.mf_report.specs.Verdicts.{accepted_text}
+use Rattle.std.proofs.Common.{◌∙◌}
 use Rattle.mf_top.specs.Answers.{task_words}
 use Rattle.mf_top.specs.Writes.{Output}
 use Rattle.mf_top.specs.declared.Status.TheVariants.{Done}
@@ -17,9 +14,7 @@ returns-in-Ok g c =
       faults = g.K.Sink.faults c.args.sink.now;
       faults_now = g.K.Sink.faults c.write_answer.new.sink;
     } in
-    let line = c.deref.ensures.value ∙ c.in-Ok.ensures
-    ∙ ap (λ (shape : Chain). accepted_text shape.stages) (c.shape.ensures.value
-    ∙ ap (λ (family : Code). family.shape) c.family.ensures) in
+    let lines = c.deref.ensures.value ∙ c.in-Ok.ensures in
     λ text is.
     written out (task_words Check) text c.deref.result.now Done c.write_answer.result 0
-    (accepted_read text c.deref.result.now c.args.script.now is line) (λ w. w) c.write_answer.ensures
+    (accepted_read text c.deref.result.now c.args.script.now is lines) (λ w. w) c.write_answer.ensures

@@ -1,9 +1,7 @@
 -- Sums of chunks by rows of coefficients, lane by lane.
-use Rattle.std.proofs.Common.{◌≡◌, ℕ, ◌+◌, ◌-◌, ◌*◌, ◌<◌, ◌≤◌, List, [], ◌∷◌, ◌++◌, length, get_or, replicate, bit_xor}
+use Rattle.std.proofs.Common.{◌≡◌, ℕ, ◌+◌, ◌-◌, ◌*◌, ◌<◌, ◌≤◌, List, [], ◌∷◌, length, get_or, replicate, bit_xor}
 use Rattle.std.proofs.Common.{refl, sym, ap, ap₂, ◌∙◌, arith, ⊎_elim, Fits, w8}
 use Rattle.std.proofs.lemmas.Bool.{cases_lt}
-use Rattle.std.proofs.lemmas.List.{length-append, length-replicate, get_or-replicate, get_or_append_left}
-use Rattle.std.proofs.lemmas.List.{get_or-append_right, get_or_default}
 use Rattle.std.proofs.lemmas.Simd.{get_or-zip2, length-zip2, length-chunk, get_or-chunk, get_or-put_chunk_at}
 use Rattle.std.proofs.lemmas.Simd.{get_or-put_chunk_below}
 use lib.Lanes.{zip2, chunk, put_chunk, Each1}
@@ -73,40 +71,6 @@ pub sums_all : (row : List ℕ) (t at : ℕ) (chunks : List (List ℕ)) (lanes :
     → t ≡ length chunks
     → (x : ℕ) → x < 32 → get_or lanes x 0 ≡ dot row (column (at + x) chunks)
 sums_all row t at chunks lanes sums is x lt = sums.are x lt ∙ row_sum_all row t (at + x) chunks is
-
--- one more byte
-pub byte_more : (row : List ℕ) (sum after product factor byte t x : ℕ) (chunks : List (List ℕ)) (piece bytes : List ℕ)
-    → t < length chunks → piece ≡ get_or chunks t piece → bytes ≡ piece → factor ≡ get_or row t 0
-    → byte ≡ get_or bytes x 0
-    → product ≡ times factor byte → after ≡ bit_xor sum product → sum ≡ row_sum row t (column x chunks)
-    → after ≡ row_sum row (t + 1) (column x chunks)
-byte_more row sum after product factor byte t x chunks piece bytes lt is same factor_is byte_is product_is are so_far =
-    are ∙ ap₂ bit_xor so_far
-    (product_is ∙ ap₂ times factor_is
-    (byte_is ∙ ap (λ (ys : List ℕ). get_or ys x 0) same ∙ sym (column_at x chunks t piece lt is)))
-    ∙ sym (sum_below-more t (λ i. times (get_or row i 0) (get_or (column x chunks) i 0)))
-
--- the coefficients of a row: its ones, and then its factors
-pub value_one : (ones : ℕ) (factors : List ℕ) (i : ℕ) → i < ones → get_or (replicate ones 1 ++ factors) i 0 ≡ 1
-value_one ones factors i lt =
-    get_or_append_left (replicate ones 1) factors 0 i (omega (arith, length-replicate {A = ℕ} ones 1))
-    ∙ get_or-replicate {A = ℕ} ones i 1 0 lt
-
-pub value_factor : (ones : ℕ) (factors : List ℕ) (i : ℕ) → ones ≤ i
-    → get_or (replicate ones 1 ++ factors) i 0 ≡ get_or factors (i - ones) 0
-value_factor ones factors i le = get_or-append_right (replicate ones 1) factors ones i 0
-    (length-replicate {A = ℕ} ones 1) le
-
-pub value_read : (ones : ℕ) (factors : List ℕ) (t factor : ℕ) → ones ≤ t → t - ones < length factors
-    → factor ≡ get_or factors (t - ones) factor
-    → factor ≡ get_or (replicate ones 1 ++ factors) t 0
-value_read ones factors t factor le lt is = is ∙ get_or_default factors (t - ones) factor 0 lt
-    ∙ sym (value_factor ones factors t le)
-
-pub length-values : (ones : ℕ) (factors : List ℕ) → length (replicate ones 1 ++ factors) ≡ ones + length factors
-length-values ones factors =
-    length-append {A = ℕ} (replicate ones 1) factors
-    ∙ ap (λ (n : ℕ). n + length factors) (length-replicate {A = ℕ} ones 1)
 
 -- adding lanes is adding 1 times them
 pub added_once : (sums lanes : List ℕ) → Each1 (Fits w8) lanes → zip2 bit_xor sums lanes ≡ added_scaled sums 1 lanes

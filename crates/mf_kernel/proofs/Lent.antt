@@ -6,7 +6,7 @@ use Rattle.mf_code.specs.Sums.{weighted}
 use Rattle.mf_code.specs.Rows.{list_of, column}
 use Rattle.mf_code.proofs.Sums.{sum_below-same}
 use Rattle.mf_code.proofs.Lists.{list_of-same}
-use Rattle.mf_kernel.specs.Dots.{dot_powers}
+use Rattle.mf_kernel.specs.Dots.{dot, dot_powers}
 
 module _ {A : Type 0} (list : A → List ℕ) (pieces : List A) where
   pub length-lists : length (map list pieces) ≡ length pieces
@@ -32,6 +32,13 @@ of_chunks n start step point chunks made f are is =
     are
     ∙ ap (λ (l : List (List ℕ)). list_of n (λ x. dot_powers step point (column (start + x) l))) (map-id chunks)
     ∙ list_of-same n (λ x. dot_powers step point (column (start + x) chunks)) f (λ x lt. is x)
+
+-- a block of the sum of chunks by a row
+pub of_block : (n start : ℕ) (row : List ℕ) (chunks : List (List ℕ)) (made : List ℕ)
+    → made ≡ list_of n (λ x. dot row (column (start + x) (map (λ c. c) chunks)))
+    → made ≡ list_of n (λ x. dot row (column (start + x) chunks))
+of_block n start row chunks made are = are
+    ∙ ap (λ (l : List (List ℕ)). list_of n (λ x. dot row (column (start + x) l))) (map-id chunks)
 
 -- by the powers 0, 1 and so on it is the sum by the point
 pub weighted_is : (point : ℕ) (xs : List ℕ) → dot_powers 1 point xs ≡ weighted point xs

@@ -6,3 +6,4 @@ pub mod Tables
 pub mod Scaled
 pub mod Dotted
 pub mod RowLists
+mod RowTables

@@ -54,7 +54,7 @@ copies_at l long (suc (suc copy)) n lc ln = absurd (omega arith)
 
 pub IsTable_of : (f : ℕ → ℕ) → Linear f → (table : List ℕ) (a b c d : ℕ) → a ≡ f 1 → b ≡ f 2 → c ≡ f 4 → d ≡ f 8
     → table ≡ entries a b c d ++ entries a b c d → IsTable f table
-IsTable_of f h table a b c d ea eb ec ed is = record { at = at }
+IsTable_of f h table a b c d ea eb ec ed is = record { long = ap length is; at = at }
   where
     same : entries a b c d ≡ entries (f 1) (f 2) (f 4) (f 8)
     same = ap₂ (λ (x y : ℕ). entries x y c d) ea eb ∙ ap₂ (λ (x y : ℕ). entries (f 1) (f 2) x y) ec ed

@@ -1,5 +1,4 @@
 -- What the public calls promise.
 pub mod Dots
--- Words of private functions.
+-- Tables of products, for lanes.
 pub mod Tables
-pub mod Values

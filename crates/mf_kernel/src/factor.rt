@@ -1,6 +1,7 @@
 //! A factor of many bytes: its products with the two halves of a byte stand in tables, which lanes
 //! look up.
-ghost use Rattle.std.specs.Prelude.{◌≡◌, ◌*◌, ◌/◌, ◌++◌, ℕ, List, bit_xor, bit_and, map};
+ghost use Rattle.std.specs.Prelude.{◌≡◌, ◌+◌, ◌*◌, ◌/◌, ◌^◌, ◌<◌, ◌++◌, ℕ, List, bit_xor};
+ghost use Rattle.std.specs.Prelude.{bit_and, length, map, slice_index};
 ghost use Rattle.mf_code.specs.Field.{times};
 ghost use Rattle.mf_code.specs.Rows.{scaled, added_scaled};
 ghost use Rattle.mf_kernel.specs.Tables.{IsTable, entries};
@@ -53,6 +54,22 @@ impl Factor {
         self.value
     }
 
+    /// The products with 0 to 15, and then with 16 times these.
+    pub(crate) fn tables(&self) -> u8x32
+        ensures length { length result ≡ 32 }
+        ensures lower { (n : ℕ) → n < 16 → slice_index result n ≡ times self.now n }
+        ensures upper { (n : ℕ) → n < 16 → slice_index result (16 + n)
+            ≡ times self.now (n * 2 ^ 4) }
+    {
+        self.low.shuffle(
+            self.high,
+            [
+                0, 1, 2, 3, 4, 5, 6, 7, 8, 9, 10, 11, 12, 13, 14, 15, 48, 49, 50, 51, 52, 53, 54,
+                55, 56, 57, 58, 59, 60, 61, 62, 63,
+            ],
+        )
+    }
+
     /// The products by the factor, lane by lane.
     #[inline(always)]
     pub(crate) fn product(&self, lanes: u8x32) -> u8x32
@@ -84,17 +101,17 @@ fn table(a: u8, b: u8, c: u8, d: u8) -> u8x32
     ])
 }
 
-// What a table has for the lower half of each lane.
+/// What a table has for the lower half of each lane.
 #[inline(always)]
-fn by_lower(table: u8x32, lanes: u8x32) -> u8x32
+pub(crate) fn by_lower(table: u8x32, lanes: u8x32) -> u8x32
     ensures { (f : ℕ → ℕ) → IsTable f table → result ≡ map (λ b. f (bit_and b 15)) lanes }
 {
     table.swizzle_dyn_within::<16>(lanes & u8x32::splat(15))
 }
 
-// What a table has for the upper half of each lane.
+/// What a table has for the upper half of each lane.
 #[inline(always)]
-fn by_upper(table: u8x32, lanes: u8x32) -> u8x32
+pub(crate) fn by_upper(table: u8x32, lanes: u8x32) -> u8x32
     ensures { (f : ℕ → ℕ) → IsTable f table → result ≡ map (λ b. f (b / 16)) lanes }
 {
     table.swizzle_dyn_within::<16>(lanes >> u8x32::splat(4))

@@ -1,102 +1,154 @@
-//! Sums of chunks by one, two or three rows at a time, kept in lanes while the chunks are gone
-//! through.
-ghost use Rattle.std.specs.Prelude.{◌≡◌, ◌+◌, ◌*◌, ◌<◌, ◌≤◌, ℕ, All, length, slice_index};
-ghost use Rattle.std.specs.Prelude.{replicate};
-ghost use Rattle.mf_code.specs.Rows.{column, added_scaled};
-ghost use Rattle.mf_kernel.specs.Dots.{dot, combined};
-ghost use Rattle.mf_kernel.specs.Values.{values};
+//! Sums of pieces by two or three rows at a time, kept in lanes while the pieces are gone through.
+ghost use Rattle.std.specs.Prelude.{◌≡◌, ◌+◌, ◌*◌, ◌<◌, ◌≤◌, ℕ, All, length, map, slice_index};
+ghost use Rattle.std.specs.Bool.{OnTrue};
+ghost use Rattle.mf_code.specs.Rows.{list_of, column, added_scaled};
+ghost use Rattle.mf_kernel.specs.Dots.{dot};
 
-use crate::chunk::Chunk;
+use crate::columns::{Bytes, fill_row};
 use crate::lanes::{LANES, lanes_at, put_lanes};
 use crate::row::Row;
-use mf_field::{add, mul};
 use std::simd::prelude::*;
 
-/// Fills `out` with the sum by the row.
-pub(crate) fn fill(row: &Row, chunks: &[Chunk], out: &mut [u8])
-    requires row { length (values row.now) ≡ length chunks.now }
-    requires columns { All (λ chunk. length out.old ≤ length chunk) chunks.now }
-    ensures { out.new ≡ combined (length out.old) chunks.now (values row.now) }
-{
-    if out.len() < LANES {
-        fill_short(row, chunks, out);
-    } else {
-        fill_one(row, chunks, out);
-    }
-}
-
-// Fills `out` with the sum by the row, by lanes.
-fn fill_one(row: &Row, chunks: &[Chunk], out: &mut [u8])
-    requires row { length (values row.now) ≡ length chunks.now }
-    requires columns { All (λ chunk. length out.old ≤ length chunk) chunks.now }
-    requires lanes { 32 ≤ length out.old }
-    ensures { out.new ≡ combined (length out.old) chunks.now (values row.now) }
-{
-    for block in 0..out.len().div_ceil(LANES) {
-        let at = block_start(block, out.len());
-        let sums = lane_sums(row, row, chunks, at);
-        put_lanes(out, at, sums.first);
-    }
-}
-
-/// Fills `a` and `b` with the sums by two rows that begin with as many ones.
-pub(crate) fn fill_two(first: &Row, second: &Row, chunks: &[Chunk], a: &mut [u8], b: &mut [u8])
-    requires first { length (values first.now) ≡ length chunks.now }
-    requires second { length (values second.now) ≡ length chunks.now }
-    requires ones { second.now.ones ≡ first.now.ones }
-    requires lengths { length b.old ≡ length a.old }
-    requires columns { All (λ chunk. length a.old ≤ length chunk) chunks.now }
-    requires lanes { 32 ≤ length a.old }
-    ensures first { a.new ≡ combined (length a.old) chunks.now (values first.now) }
-    ensures second { b.new ≡ combined (length a.old) chunks.now (values second.now) }
-{
-    for block in 0..a.len().div_ceil(LANES) {
-        let at = block_start(block, a.len());
-        let sums = lane_sums(first, second, chunks, at);
-        put_lanes(a, at, sums.first);
-        put_lanes(b, at, sums.second);
-    }
-}
-
-/// Fills `plain` with the sum of the chunks as they are, and `a` and `b` with the sums by two rows
-/// that begin with as many ones.
-pub(crate) fn fill_three(
-    first: &Row,
-    second: &Row,
-    chunks: &[Chunk],
-    plain: &mut [u8],
+/// Fills `a` and `b` with the bytes from `start` on of the sums of pieces by two rows. Each piece
+/// has the columns that are filled.
+pub fn fill_two<'r, P: Bytes>(
+    first: &Row<'r>,
+    second: &Row<'r>,
+    pieces: &[P],
+    start: usize,
     a: &mut [u8],
     b: &mut [u8],
 )
-    requires first { length (values first.now) ≡ length chunks.now }
-    requires second { length (values second.now) ≡ length chunks.now }
-    requires ones { second.now.ones ≡ first.now.ones }
-    requires plain { length plain.old ≡ length a.old }
+    requires first { length first.now ≡ length pieces.now }
+    requires second { length second.now ≡ length pieces.now }
     requires lengths { length b.old ≡ length a.old }
-    requires columns { All (λ chunk. length a.old ≤ length chunk) chunks.now }
+    requires columns { All (λ piece. start + length a.old ≤ length piece) (map P.list pieces.now) }
+    ensures first { a.new ≡ list_of (length a.old)
+        (λ x. dot first.now (column (start + x) (map P.list pieces.now))) }
+    ensures second { b.new ≡ list_of (length a.old)
+        (λ x. dot second.now (column (start + x) (map P.list pieces.now))) }
+{
+    let ones = first.ones().min(second.ones());
+    if a.len() < LANES {
+        fill_row(first.coefficients(), pieces, start, a);
+        fill_row(second.coefficients(), pieces, start, b);
+    } else if first.ones() == pieces.len() {
+        fill_two_by_lanes(true, ones, first, second, pieces, start, a, b);
+    } else {
+        fill_two_by_lanes(false, ones, first, second, pieces, start, a, b);
+    }
+}
+
+/// Fills `a`, `b` and `c` with the bytes from `start` on of the sums of pieces by three rows. Each
+/// piece has the columns that are filled.
+pub fn fill_three<'r, P: Bytes>(
+    first: &Row<'r>,
+    second: &Row<'r>,
+    third: &Row<'r>,
+    pieces: &[P],
+    start: usize,
+    a: &mut [u8],
+    b: &mut [u8],
+    c: &mut [u8],
+)
+    requires first { length first.now ≡ length pieces.now }
+    requires second { length second.now ≡ length pieces.now }
+    requires third { length third.now ≡ length pieces.now }
+    requires lengths { (length b.old ≡ length a.old) × (length c.old ≡ length a.old) }
+    requires columns { All (λ piece. start + length a.old ≤ length piece) (map P.list pieces.now) }
+    ensures first { a.new ≡ list_of (length a.old)
+        (λ x. dot first.now (column (start + x) (map P.list pieces.now))) }
+    ensures second { b.new ≡ list_of (length a.old)
+        (λ x. dot second.now (column (start + x) (map P.list pieces.now))) }
+    ensures third { c.new ≡ list_of (length a.old)
+        (λ x. dot third.now (column (start + x) (map P.list pieces.now))) }
+{
+    let ones = first.ones().min(second.ones()).min(third.ones());
+    if a.len() < LANES {
+        fill_row(first.coefficients(), pieces, start, a);
+        fill_row(second.coefficients(), pieces, start, b);
+        fill_row(third.coefficients(), pieces, start, c);
+    } else if first.ones() == pieces.len() {
+        fill_three_by_lanes(true, ones, first, second, third, pieces, start, a, b, c);
+    } else {
+        fill_three_by_lanes(false, ones, first, second, third, pieces, start, a, b, c);
+    }
+}
+
+// The same of two rows, by lanes. `is_plain` says that the first has ones alone, and each begins
+// with so many ones.
+#[inline(always)]
+fn fill_two_by_lanes<'r, P: Bytes>(
+    is_plain: bool,
+    ones: usize,
+    first: &Row<'r>,
+    second: &Row<'r>,
+    pieces: &[P],
+    start: usize,
+    a: &mut [u8],
+    b: &mut [u8],
+)
+    requires plain { OnTrue is_plain
+        ((t : ℕ) → t < length first.now → slice_index first.now t ≡ 1) }
+    requires few { ones ≤ length pieces.now }
+    requires ones { (t : ℕ) → t < ones → (slice_index first.now t ≡ 1)
+        × (slice_index second.now t ≡ 1) }
+    requires first { length first.now ≡ length pieces.now }
+    requires second { length second.now ≡ length pieces.now }
+    requires lengths { length b.old ≡ length a.old }
+    requires columns { All (λ piece. start + length a.old ≤ length piece) (map P.list pieces.now) }
     requires lanes { 32 ≤ length a.old }
-    ensures plain { plain.new
-        ≡ combined (length a.old) chunks.now (replicate (length chunks.now) 1) }
-    ensures first { a.new ≡ combined (length a.old) chunks.now (values first.now) }
-    ensures second { b.new ≡ combined (length a.old) chunks.now (values second.now) }
+    ensures first { a.new ≡ list_of (length a.old)
+        (λ x. dot first.now (column (start + x) (map P.list pieces.now))) }
+    ensures second { b.new ≡ list_of (length a.old)
+        (λ x. dot second.now (column (start + x) (map P.list pieces.now))) }
 {
     for block in 0..a.len().div_ceil(LANES) {
         let at = block_start(block, a.len());
-        let sums = lane_sums(first, second, chunks, at);
-        put_lanes(plain, at, sums.plain);
+        let sums = lane_sums(is_plain, ones, first, second, second, pieces, start, at);
         put_lanes(a, at, sums.first);
         put_lanes(b, at, sums.second);
     }
 }
 
-// Fills `out` with the sum by the row, byte by byte.
-fn fill_short(row: &Row, chunks: &[Chunk], out: &mut [u8])
-    requires row { length (values row.now) ≡ length chunks.now }
-    requires columns { All (λ chunk. length out.old ≤ length chunk) chunks.now }
-    ensures { out.new ≡ combined (length out.old) chunks.now (values row.now) }
+// The same of three rows, by lanes.
+#[inline(always)]
+fn fill_three_by_lanes<'r, P: Bytes>(
+    is_plain: bool,
+    ones: usize,
+    first: &Row<'r>,
+    second: &Row<'r>,
+    third: &Row<'r>,
+    pieces: &[P],
+    start: usize,
+    a: &mut [u8],
+    b: &mut [u8],
+    c: &mut [u8],
+)
+    requires plain { OnTrue is_plain
+        ((t : ℕ) → t < length first.now → slice_index first.now t ≡ 1) }
+    requires few { ones ≤ length pieces.now }
+    requires ones { (t : ℕ) → t < ones → (slice_index first.now t ≡ 1)
+        × (slice_index second.now t ≡ 1) × (slice_index third.now t ≡ 1) }
+    requires first { length first.now ≡ length pieces.now }
+    requires second { length second.now ≡ length pieces.now }
+    requires third { length third.now ≡ length pieces.now }
+    requires lengths { (length b.old ≡ length a.old) × (length c.old ≡ length a.old) }
+    requires columns { All (λ piece. start + length a.old ≤ length piece) (map P.list pieces.now) }
+    requires lanes { 32 ≤ length a.old }
+    ensures first { a.new ≡ list_of (length a.old)
+        (λ x. dot first.now (column (start + x) (map P.list pieces.now))) }
+    ensures second { b.new ≡ list_of (length a.old)
+        (λ x. dot second.now (column (start + x) (map P.list pieces.now))) }
+    ensures third { c.new ≡ list_of (length a.old)
+        (λ x. dot third.now (column (start + x) (map P.list pieces.now))) }
 {
-    for x in 0..out.len() {
-        out[x] = byte_sum(row, chunks, x);
+    for block in 0..a.len().div_ceil(LANES) {
+        let at = block_start(block, a.len());
+        let sums = lane_sums(is_plain, ones, first, second, third, pieces, start, at);
+        put_lanes(a, at, sums.first);
+        put_lanes(b, at, sums.second);
+        put_lanes(c, at, sums.third);
     }
 }
 
@@ -112,60 +164,74 @@ fn block_start(block: usize, size: usize) -> usize
     (block * LANES).min(size - LANES)
 }
 
-// Byte x of the sum by the row.
-fn byte_sum(row: &Row, chunks: &[Chunk], x: usize) -> u8
-    requires row { length (values row.now) ≡ length chunks.now }
-    requires columns { All (λ chunk. x < length chunk) chunks.now }
-    ensures { result ≡ dot (values row.now) (column x chunks.now) }
-{
-    let mut sum = 0;
-    for (t, chunk) in chunks.iter().enumerate() {
-        sum = add(sum, mul(row.at(t), chunk.bytes()[x]));
-    }
-    sum
-}
-
 // The lanes of three sums.
 #[derive(Drop)]
 struct LaneSums {
-    plain: u8x32,
     first: u8x32,
     second: u8x32,
+    third: u8x32,
 }
 
-// The sums of the chunks' lanes from `at` on: as they are, and by two rows that begin with as many
-// ones.
+// The sums of the pieces' lanes from `start + at` on, by three rows, each of which begins with so
+// many ones. `is_plain` says that the first has ones alone.
 #[inline(always)]
-fn lane_sums(first: &Row, second: &Row, chunks: &[Chunk], at: usize) -> LaneSums
-    requires first { length (values first.now) ≡ length chunks.now }
-    requires second { length (values second.now) ≡ length chunks.now }
-    requires ones { second.now.ones ≡ first.now.ones }
-    requires columns { All (λ chunk. at + 32 ≤ length chunk) chunks.now }
-    ensures lengths { (length result.plain ≡ 32) × (length result.first ≡ 32)
-        × (length result.second ≡ 32) }
-    ensures plain { (x : ℕ) → x < 32 → slice_index result.plain x
-        ≡ dot (replicate (length chunks.now) 1) (column (at + x) chunks.now) }
+fn lane_sums<'r, P: Bytes>(
+    is_plain: bool,
+    ones: usize,
+    first: &Row<'r>,
+    second: &Row<'r>,
+    third: &Row<'r>,
+    pieces: &[P],
+    start: usize,
+    at: usize,
+) -> LaneSums
+    requires plain { OnTrue is_plain
+        ((t : ℕ) → t < length first.now → slice_index first.now t ≡ 1) }
+    requires few { ones ≤ length pieces.now }
+    requires ones { (t : ℕ) → t < ones → (slice_index first.now t ≡ 1)
+        × (slice_index second.now t ≡ 1) × (slice_index third.now t ≡ 1) }
+    requires first { length first.now ≡ length pieces.now }
+    requires second { length second.now ≡ length pieces.now }
+    requires third { length third.now ≡ length pieces.now }
+    requires columns { All (λ piece. start + at + 32 ≤ length piece) (map P.list pieces.now) }
+    ensures lengths { (length result.first ≡ 32) × (length result.second ≡ 32)
+        × (length result.third ≡ 32) }
     ensures first { (x : ℕ) → x < 32 → slice_index result.first x
-        ≡ dot (values first.now) (column (at + x) chunks.now) }
+        ≡ dot first.now (column (start + (at + x)) (map P.list pieces.now)) }
     ensures second { (x : ℕ) → x < 32 → slice_index result.second x
-        ≡ dot (values second.now) (column (at + x) chunks.now) }
+        ≡ dot second.now (column (start + (at + x)) (map P.list pieces.now)) }
+    ensures third { (x : ℕ) → x < 32 → slice_index result.third x
+        ≡ dot third.now (column (start + (at + x)) (map P.list pieces.now)) }
 {
     let mut plain = u8x32::splat(0);
-    for t in 0..first.ones {
-        plain = add_plain(plain, lanes_at(chunks[t].bytes(), at));
+    for t in 0..ones {
+        plain = add_plain(plain, lanes_at(pieces[t].bytes(), start + at));
     }
-    let mut a = plain;
-    let mut b = plain;
-    for t in first.ones..chunks.len() {
-        let lanes = lanes_at(chunks[t].bytes(), at);
-        plain = add_plain(plain, lanes);
-        a = first.factors[t - first.ones].add_product(a, lanes);
-        b = second.factors[t - first.ones].add_product(b, lanes);
+    let (mut a, mut b, mut c) = (plain, plain, plain);
+    for t in ones..pieces.len() {
+        let lanes = lanes_at(pieces[t].bytes(), start + at);
+        a = add_first(is_plain, first, t, a, lanes);
+        b = second.add_product(t, b, lanes);
+        c = third.add_product(t, c, lanes);
     }
     LaneSums {
-        plain,
         first: a,
         second: b,
+        third: c,
+    }
+}
+
+// The sums with the products by coefficient t, of a row of ones alone or of another one.
+#[inline(always)]
+fn add_first(is_plain: bool, row: &Row, t: usize, sums: u8x32, lanes: u8x32) -> u8x32
+    requires place { t < length row.now }
+    requires plain { OnTrue is_plain (slice_index row.now t ≡ 1) }
+    ensures { result ≡ added_scaled sums (slice_index row.now t) lanes }
+{
+    if is_plain {
+        add_plain(sums, lanes)
+    } else {
+        row.add_product(t, sums, lanes)
     }
 }
 

@@ -1,6 +1,7 @@
 mod Pieces
 mod Rooms
-mod Fronts
 mod Losses
 mod Kept
 mod Decodings
+mod Spans
+mod Encodings

@@ -3,9 +3,8 @@ use Rattle.std.proofs.Common.{◌≡◌, ℕ, ◌<◌, List, [], length, get_or,
 use Rattle.std.proofs.lemmas.Bool.{cases_lt}
 use Rattle.std.proofs.lemmas.List.{length-map, get_or-map, map-set, get_or-set_other}
 use Rattle.std.proofs.lemmas.Grind.{get_or-set_at}
-use Rattle.morph_codes.specs.declared.handed.Piece.{Piece}
 use Rattle.morph_codes.specs.declared.handed.Room.{Room}
-use Rattle.morph_codes.specs.Handed.{rooms_of, IsFront}
+use Rattle.morph_codes.specs.Handed.{rooms_of}
 
 pub length-rooms_of : (rooms : List Room) → length (rooms_of rooms) ≡ length rooms
 length-rooms_of rooms = length-map rooms (λ (r : Room). r.bytes.now)
@@ -44,12 +43,6 @@ room_more P rooms p q room lt here others = elim (cases_lt q p) [
         (subst (λ (n : ℕ). P n room.bytes.now) (sym same) here)
   ]
 ]
-
--- a room's bytes: of its size, made up to `start`, and up to `end` where its number is below p
-abbrev pub IsMade : List ℕ → List Piece → ℕ → ℕ → ℕ → ℕ → ℕ → List ℕ → Type 0
-IsMade points pieces size start end p q bytes =
-    (length bytes ≡ size) × IsFront (get_or points q 0) pieces start bytes
-    × (q < p → IsFront (get_or points q 0) pieces end bytes)
 
 -- a room that stands where there is none
 abbrev pub no_room : Room

@@ -1,8 +1,6 @@
 -- What a caller hands in.
-use Rattle.std.specs.Prelude.{List, [], ℕ, ◌≡◌, ◌+◌, ◌<◌, ◌≤◌, All, length, map, slice_index, slice_index_or}
-use Rattle.std.specs.Prelude.{Option, IfSome}
-use Rattle.mf_code.specs.Rows.{column}
-use Rattle.mf_code.specs.Sums.{weighted}
+use Rattle.std.specs.Prelude.{List, [], ℕ, ◌≡◌, ◌+◌, ◌<◌, ◌≤◌, All, length, map, slice_index_or}
+use Rattle.std.specs.Prelude.{◌++◌, take, drop, Option, IfSome}
 use Rattle.mf_decode.specs.Decoding.{Plan, gaps_from}
 use Rattle.morph_codes.specs.declared.handed.Piece.{Piece}
 use Rattle.morph_codes.specs.declared.handed.Room.{Room}
@@ -23,15 +21,9 @@ HaveColumns start count pieces = All (λ piece. start + count ≤ length piece) 
 abbrev pub RoomsFit : ℕ → List Room → Type 0
 RoomsFit size rooms = (q : ℕ) → q < length rooms → length (slice_index_or (rooms_of rooms) q []) ≡ size
 
--- The first n bytes are those of the parity with this point.
-abbrev pub IsFront : ℕ → List Piece → ℕ → List ℕ → Type 0
-IsFront point pieces n bytes =
-    (x : ℕ) → x < n → slice_index bytes x ≡ weighted point (column x (bytes_of pieces))
-
--- The same of each room, by its point.
-abbrev pub AreFronts : List ℕ → List Piece → ℕ → List Room → Type 0
-AreFronts points pieces n rooms =
-    (q : ℕ) → q < length rooms → IsFront (slice_index points q) pieces n (slice_index_or (rooms_of rooms) q [])
+-- The bytes with a block written over those from `start` on.
+abbrev pub written : ℕ → List ℕ → List ℕ → List ℕ
+written start block bytes = take start bytes ++ (block ++ drop (start + length block) bytes)
 
 -- The plan of stripes of `count` pieces that have lost these and have these parities.
 abbrev pub plan_of : List ℕ → ℕ → List ℕ → List ℕ → Plan

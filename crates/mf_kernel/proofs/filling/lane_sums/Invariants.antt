@@ -1,14 +1,13 @@
--- Each lane is the sum over the chunks so far.
-use Rattle.std.proofs.Common.{length, replicate}
-use Rattle.mf_kernel.specs.Values.{values}
+-- Each lane is the sum over the pieces so far.
+use Rattle.std.proofs.Common.{◌+◌, map}
 use Rattle.mf_kernel.proofs.Dotted.{AreSums}
 use Rattle.mf_kernel.proofs.filling.lane_sums.Given as goal
 
 abbrev pub invariant-loop-t : goal.invariant-loop-t
-invariant-loop-t l = AreSums (replicate (length l.fn.chunks) 1) l.t l.fn.at l.fn.chunks l.plain
+invariant-loop-t g l = AreSums l.fn.first l.t (l.fn.start + l.fn.at) (map g.P.Bytes.list l.fn.pieces) l.plain
 
 abbrev pub invariant-loop-t-2 : goal.invariant-loop-t-2
-invariant-loop-t-2 l =
-    AreSums (replicate (length l.fn.chunks) 1) l.t l.fn.at l.fn.chunks l.plain
-    × AreSums (values l.fn.first) l.t l.fn.at l.fn.chunks l.a
-    × AreSums (values l.fn.second) l.t l.fn.at l.fn.chunks l.b
+invariant-loop-t-2 g l =
+    AreSums l.fn.first l.t (l.fn.start + l.fn.at) (map g.P.Bytes.list l.fn.pieces) l.a
+    × AreSums l.fn.second l.t (l.fn.start + l.fn.at) (map g.P.Bytes.list l.fn.pieces) l.b
+    × AreSums l.fn.third l.t (l.fn.start + l.fn.at) (map g.P.Bytes.list l.fn.pieces) l.c

@@ -1,0 +1,13 @@
+-- The sums have the columns of the blocks so far.
+use Rattle.std.proofs.Common.{◌≡◌, ◌≤◌, ◌-◌}
+use Rattle.mf_kernel.specs.Dots.{combined}
+use Rattle.mf_kernel.proofs.combining.two_sums.Given as goal
+
+abbrev pub invariant-loop-start : goal.invariant-loop-start
+invariant-loop-start l =
+    (l.start ≤ l.fn.size)
+    × (l.a.items ≡ combined l.start l.fn.chunks l.fn.first)
+    × (l.b.items ≡ combined l.start l.fn.chunks l.fn.second)
+
+abbrev pub decreases-loop-start : goal.decreases-loop-start
+decreases-loop-start l = l.fn.size - l.start

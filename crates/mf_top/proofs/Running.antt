@@ -287,5 +287,5 @@ count_next items xs n x count one are within at so_far is =
     omega (arith, so_far, is, phases_pushed (take n items) x, ap (λ l. length (phases_in l)) taken)
 
 pub count_fits : (items : List Item) (n count : ℕ) → count ≡ length (phases_in (take n items))
-    → length (phases_in items) ≤ 64 → count ≤ 64
+    → length (phases_in items) ≤ 1024 → count ≤ 1024
 count_fits items n count e few = omega (arith, e, few, few_phases n items)

@@ -35,9 +35,10 @@ use Rattle.mf_lines.specs.Names.{is_name}
 use Rattle.mf_lines.specs.Lines.{within, is_above, numbers_in, points_in, are_thresholds, has_name, file_number}
 use Rattle.mf_lines.specs.Lines.{content_in, content_length, starts_high, file_limits, command_fits, lacks_server}
 use Rattle.mf_lines.specs.Lines.{has_twice, form_in, may_follow, away_operands, servers_in, convert_in, later_form}
-use Rattle.mf_lines.specs.Lines.{placed, form_at}
+use Rattle.mf_lines.specs.Lines.{placed, form_at, file_operand}
 use Rattle.mf_lines.specs.FaultTable.{value, is_header, fits_content, is_hex_wrong, is_dumped, content_numbers}
-use Rattle.mf_lines.specs.FaultTable.{spells_above, passes_start, content_size, without_words, is_without}
+use Rattle.mf_lines.specs.FaultTable.{spells_above, passes_start, content_size, option_words, without_words, is_without}
+use Rattle.mf_lines.specs.FaultTable.{file_words}
 use Rattle.mf_lines.specs.FaultTable.{word_rows, known_rows, words_rows, line_rows, first_kind, fault_of}
 
 -- ---- numbers of words
@@ -447,40 +448,21 @@ on_file_by make true f o = refl
 on_file_by make false f None = refl
 on_file_by make false f (Some file) = ended f (says.Command (make file))
 
-create_told : (so : SoFar) (last : LineWord) (ws : List (List ℕ)) → Told so last (word.Command verb.Create) ws
-create_told so last [] = refl
-create_told so last (w ∷ []) =
-    on_file_by act.Create (leb 1024 so.commands) (not (may_follow last (word.Command verb.Create)))
-    (file_number (names_in so.script.files) w)
-create_told so last (w ∷ v ∷ ws) = sym (cond-true _ _ _ (ap not (not_one w v ws)))
+abbrev OnFile : SoFar → Bool → (ℕ → Act) → List (List ℕ) → Type 0
+OnFile so f make ws =
+    fault_of (((file_operand so ws >>= λ file. Ok (make file)) >>= λ act. Ok (says.Command act)) >>= closed f)
+    ≡ first_kind ((not (eqb (length ws) 1), kind.Arity) ∷ (leb 1024 so.commands, kind.Limit limit.Commands)
+    ∷ (
+      list_any (λ name. is_none (file_number (names_in so.script.files) name))
+          (file_words (word.Command verb.Create) ws),
+      kind.NoFile,
+    ) ∷ (f, kind.Order) ∷ [])
 
-hold_told : (so : SoFar) (last : LineWord) (ws : List (List ℕ)) → Told so last (word.Command verb.Hold) ws
-hold_told so last [] = refl
-hold_told so last (w ∷ []) =
-    on_file_by act.Hold (leb 1024 so.commands) (not (may_follow last (word.Command verb.Hold)))
-    (file_number (names_in so.script.files) w)
-hold_told so last (w ∷ v ∷ ws) = sym (cond-true _ _ _ (ap not (not_one w v ws)))
-
-release_told : (so : SoFar) (last : LineWord) (ws : List (List ℕ)) → Told so last (word.Command verb.Release) ws
-release_told so last [] = refl
-release_told so last (w ∷ []) =
-    on_file_by act.Release (leb 1024 so.commands) (not (may_follow last (word.Command verb.Release)))
-    (file_number (names_in so.script.files) w)
-release_told so last (w ∷ v ∷ ws) = sym (cond-true _ _ _ (ap not (not_one w v ws)))
-
-reclaim_told : (so : SoFar) (last : LineWord) (ws : List (List ℕ)) → Told so last (word.Command verb.Reclaim) ws
-reclaim_told so last [] = refl
-reclaim_told so last (w ∷ []) =
-    on_file_by act.Reclaim (leb 1024 so.commands) (not (may_follow last (word.Command verb.Reclaim)))
-    (file_number (names_in so.script.files) w)
-reclaim_told so last (w ∷ v ∷ ws) = sym (cond-true _ _ _ (ap not (not_one w v ws)))
-
-remove_told : (so : SoFar) (last : LineWord) (ws : List (List ℕ)) → Told so last (word.Command verb.Remove) ws
-remove_told so last [] = refl
-remove_told so last (w ∷ []) =
-    on_file_by act.Remove (leb 1024 so.commands) (not (may_follow last (word.Command verb.Remove)))
-    (file_number (names_in so.script.files) w)
-remove_told so last (w ∷ v ∷ ws) = sym (cond-true _ _ _ (ap not (not_one w v ws)))
+on_file_told : (so : SoFar) (f : Bool) (make : ℕ → Act) (ws : List (List ℕ)) → OnFile so f make ws
+on_file_told so f make [] = refl
+on_file_told so f make (w ∷ []) =
+    on_file_by make (leb 1024 so.commands) f (file_number (names_in so.script.files) w)
+on_file_told so f make (w ∷ v ∷ ws) = sym (cond-true _ _ _ (ap not (not_one w v ws)))
 
 lose_there : (c l f : Bool) (n : ℕ)
     → fault_of ((((limited c >>= λ _. refuse l kind.NoServer >>= λ _. Ok n) >>= λ server. Ok (act.Lose server))
@@ -610,22 +592,24 @@ list_by so make f true name ws =
     ap (λ r. fault_of (list_form so make f o (servers_or so r))) (numbers_by ws)
     ∙ list_read so make f (list_any no_number ws) o (map value ws)
 
-read_told : (so : SoFar) (last : LineWord) (ws : List (List ℕ)) → Told so last (word.Command verb.Read) ws
-read_told so last [] = refl
-read_told so last (name ∷ []) =
-    list_by so act.Read (not (may_follow last (word.Command verb.Read))) true name []
-read_told so last (name ∷ w ∷ []) = refl
-read_told so last (name ∷ w ∷ s ∷ ws) =
-    list_by so act.Read (not (may_follow last (word.Command verb.Read))) (bytes_eq w (codes "without")) name (s ∷ ws)
+-- a command that is no conversion
+abbrev OnList : SoFar → Bool → (ℕ → Servers → Act) → List (List ℕ) → Type 0
+OnList so f make ws =
+    fault_of (((away_operands so ws >>= λ two. Ok (make two.0 two.1)) >>= λ act. Ok (says.Command act)) >>= closed f)
+    ≡ first_kind ((not (is_without ws), kind.Arity) ∷ (list_any no_number (option_words ws), kind.Number)
+    ∷ (spells_above 4294967295 (option_words ws), kind.Limit limit.Number)
+    ∷ (leb 1024 so.commands, kind.Limit limit.Commands) ∷ (has_twice (map value (without_words ws)), kind.Twice)
+    ∷ (
+      list_any (λ name. is_none (file_number (names_in so.script.files) name))
+          (file_words (word.Command verb.Read) ws),
+      kind.NoFile,
+    ) ∷ (list_any (lacks_server so) (map value (without_words ws)), kind.NoServer) ∷ (f, kind.Order) ∷ [])
 
-repair_told : (so : SoFar) (last : LineWord) (ws : List (List ℕ)) → Told so last (word.Command verb.Repair) ws
-repair_told so last [] = refl
-repair_told so last (name ∷ []) =
-    list_by so act.Repair (not (may_follow last (word.Command verb.Repair))) true name []
-repair_told so last (name ∷ w ∷ []) = refl
-repair_told so last (name ∷ w ∷ s ∷ ws) =
-    list_by so act.Repair (not (may_follow last (word.Command verb.Repair))) (bytes_eq w (codes "without")) name
-    (s ∷ ws)
+on_list_told : (so : SoFar) (f : Bool) (make : ℕ → Servers → Act) (ws : List (List ℕ)) → OnList so f make ws
+on_list_told so f make [] = refl
+on_list_told so f make (name ∷ []) = list_by so make f true name []
+on_list_told so f make (name ∷ w ∷ []) = refl
+on_list_told so f make (name ∷ w ∷ s ∷ ws) = list_by so make f (bytes_eq w (codes "without")) name (s ∷ ws)
 
 -- a conversion without a number behind `stop`
 abbrev converting : ℕ → Servers → Act
@@ -687,14 +671,21 @@ convert_told so last (name ∷ w ∷ n ∷ m ∷ ws) =
 -- ---- any line
 
 command_told : (so : SoFar) (last : LineWord) (v : Verb) (ws : List (List ℕ)) → Told so last (word.Command v) ws
-command_told so last verb.Create ws = create_told so last ws
-command_told so last verb.Read ws = read_told so last ws
-command_told so last verb.Hold ws = hold_told so last ws
-command_told so last verb.Release ws = release_told so last ws
-command_told so last verb.Repair ws = repair_told so last ws
+command_told so last verb.Create ws =
+    on_file_told so (not (may_follow last (word.Command verb.Create))) act.Create ws
+command_told so last verb.Read ws =
+    on_list_told so (not (may_follow last (word.Command verb.Read))) act.Read ws
+command_told so last verb.Hold ws =
+    on_file_told so (not (may_follow last (word.Command verb.Hold))) act.Hold ws
+command_told so last verb.Release ws =
+    on_file_told so (not (may_follow last (word.Command verb.Release))) act.Release ws
+command_told so last verb.Repair ws =
+    on_list_told so (not (may_follow last (word.Command verb.Repair))) act.Repair ws
 command_told so last verb.Convert ws = convert_told so last ws
-command_told so last verb.Reclaim ws = reclaim_told so last ws
-command_told so last verb.Remove ws = remove_told so last ws
+command_told so last verb.Reclaim ws =
+    on_file_told so (not (may_follow last (word.Command verb.Reclaim))) act.Reclaim ws
+command_told so last verb.Remove ws =
+    on_file_told so (not (may_follow last (word.Command verb.Remove))) act.Remove ws
 command_told so last verb.Lose ws = lose_told so last ws
 command_told so last verb.Sweep ws = sweep_told so last ws
 

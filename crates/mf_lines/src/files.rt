@@ -14,16 +14,13 @@ use crate::parts::{Bytes, Content, FileLine, FileName, Kind, LimitName};
 use crate::words::{
     ContentWord, content_word, end_words, last_two_words, last_word, next_word, small, spelled,
 };
+use mf_places::{MAX_CHUNKS, MAX_LENGTH};
 use mf_text::{HexFault, hex_bytes};
 use std::alloc::{AllocError, Global};
 
 const MAX_FILES: usize = 64;
 
 const MAX_START: u32 = 250;
-
-const MAX_LENGTH: u64 = 1_048_576;
-
-const MAX_CHUNKS: u64 = 1_024;
 
 // These bytes.
 fn copied(alloc: Global, bytes: &[u8]) -> Result<Bytes, AllocError>
@@ -115,9 +112,9 @@ fn file_limits(draft: &Draft, name: &[u8], content: &Content) -> Result<(), Kind
         (!is_name(name), LimitName::Name),
         (draft.files.len() >= MAX_FILES, LimitName::Files),
         (starts_high(content), LimitName::Pattern),
-        (length > MAX_LENGTH, LimitName::Length),
+        (length > u64::from(MAX_LENGTH), LimitName::Length),
         (
-            chunk > 0 && length.div_ceil(chunk) > MAX_CHUNKS,
+            chunk > 0 && length.div_ceil(chunk) > u64::from(MAX_CHUNKS),
             LimitName::Chunks,
         ),
     ])

@@ -22,22 +22,18 @@ use crate::draft::Draft;
 use crate::files::file_line;
 use crate::parts::{Act, Bytes, FileLine, Kind, LimitName};
 use crate::words::{
-    LineWord, Verb, end_words, last_three_words, last_word, line_word, next_word, number, small,
-    spelled, split_word,
+    LineWord, MAX_NUMBER, Verb, end_words, last_three_words, last_word, line_word, next_word,
+    number, small, spelled, split_word,
 };
 use indexmap::IndexSet;
-use mf_places::Servers;
+use mf_places::{MAX_CHUNK, Servers};
 use mf_policy::Policy;
 use mf_shape::Stage;
 use std::alloc::{AllocError, Global};
 
-const MAX_CHUNK: u32 = 65_536;
-
 const MAX_POINTS: usize = 4;
 
 const MAX_POINT: u64 = 255;
-
-const MAX_NUMBER: u64 = 4_294_967_295;
 
 const MAX_PHASES: u32 = 64;
 

@@ -10,8 +10,8 @@ ghost use Rattle.mf_lines.specs.Words.{spelled, small, number_in};
 use crate::parts::{Kind, LimitName};
 use mf_text::decimal;
 
-// The greatest number of a line; some have smaller limits besides.
-const MAX_NUMBER: u64 = 4_294_967_295;
+/// The greatest number of a line; some have smaller limits besides.
+pub const MAX_NUMBER: u64 = 4_294_967_295;
 
 /// The word of a command.
 #[derive(Clone, Copy)]

@@ -4,7 +4,7 @@ use Rattle.std.proofs.Common.{List, [], ◌∷◌, ◌++◌, length, take, drop,
 use Rattle.std.proofs.Common.{Ok, Err, Bor, refl, sym, ap, ◌∙◌, arith}
 use Rattle.std.specs.List.{list_any, find, flat_map, position, position_or_len, join_with_byte}
 use Rattle.std.proofs.lemmas.Bool.{cond-true, cond-false, eq-eqb, ne_eqb, or_parts, ltb-false}
-use Rattle.std.specs.Prelude.{codes, option_to_list, is_some, OnOk}
+use Rattle.std.specs.Prelude.{codes, option_to_list, is_some}
 use Rattle.std.specs.Str.{bytes_eq}
 use Rattle.std.proofs.lemmas.List.{append_assoc, append-nil, nil_from_length, length-map, take_rest}
 use Rattle.mf_text.specs.Words.{words_of}
@@ -210,15 +210,3 @@ stop_not (a ∷ b ∷ c ∷ d ∷ ws) k e = refl
 pub spaced_join : (w : List ℕ) (ws : List (List ℕ)) → join_with_byte 32 (w ∷ ws) ≡ w ++ flat_map spaced ws
 spaced_join w [] = sym (append-nil w)
 spaced_join w (v ∷ ws) = ap (λ r. w ++ 32 ∷ r) (spaced_join v ws)
-
--- a word and further words behind it, written one after the other
-pub joined_text : (old mid out w : List ℕ) (ws : List (List ℕ)) → mid ≡ old ++ w → out ≡ mid ++ flat_map spaced ws
-    → out ≡ old ++ join_with_byte 32 (w ∷ ws)
-joined_text old mid out w ws first rest =
-    rest ∙ ap (λ m. m ++ flat_map spaced ws) first ∙ append_assoc old w (flat_map spaced ws)
-    ∙ ap (λ r. old ++ r) (sym (spaced_join w ws))
-
--- what holds of a call that gave no error, and what follows from it
-pub on_ok-map : {T E : Type 0} (r : Result T E) (P Q : Type 0) → (P → Q) → OnOk r P → OnOk r Q
-on_ok-map (Ok x) P Q f h = f h
-on_ok-map (Err e) P Q f h = h

@@ -13,7 +13,7 @@ use Rattle.mf_lines.specs.declared.forms.Form.{Form}
 use Rattle.mf_lines.specs.Meaning.{SoFar, so_before, with_line, so_with, so_of}
 use Rattle.mf_lines.specs.Lines.{form_at}
 use Rattle.mf_script.specs.Texts.{end_fault, MakeForms, HasForms, IsLineFault}
-use Rattle.mf_script.specs.Passes.{ended, after, read_lines, read_text}
+use Rattle.mf_script.specs.Passes.{at_end, after, read_lines, read_text}
 
 -- ---- the end
 
@@ -22,7 +22,7 @@ ends None e = absurd cc
 ends (Some word.End) e = refl
 ends (Some last) e = absurd cc
 
-ended_ok : (so all : SoFar) (k : Option Kind) → ended so k ≡ Ok all → (k ≡ None) × (so ≡ all)
+ended_ok : (so all : SoFar) (k : Option Kind) → at_end so k ≡ Ok all → (k ≡ None) × (so ≡ all)
 ended_ok so all None e = (refl, cc)
 ended_ok so all (Some k) e = absurd cc
 
@@ -35,7 +35,7 @@ abbrev pub kind_in : Result SoFar ScriptFault → Kind
 kind_in (Ok so) = kind.Memory
 kind_in (Err fault) = fault.kind
 
-ended_err : (so : SoFar) (o : Option Kind) (n : ℕ) (k : Kind) → ended so o ≡ Err (record { line = n; kind = k })
+ended_err : (so : SoFar) (o : Option Kind) (n : ℕ) (k : Kind) → at_end so o ≡ Err (record { line = n; kind = k })
     → (o ≡ Some k) × (n ≡ so.lines + 1)
 ended_err so None n k e = absurd cc
 ended_err so (Some j) n k e = (ap Some (ap kind_in e), sym (ap line_in e))
@@ -52,9 +52,9 @@ pub read_refused : (so : SoFar) (line : List ℕ) (lines : List (List ℕ)) (k :
 unfolding read_lines
 read_refused so line lines k e = ap (λ r. after so r (λ f. read_lines (with_line so f) lines)) e
 
-pub read_end : (so : SoFar) (o : Option Kind) → end_fault so.last ≡ o → read_lines so [] ≡ ended so o
+pub read_end : (so : SoFar) (o : Option Kind) → end_fault so.last ≡ o → read_lines so [] ≡ at_end so o
 unfolding read_lines
-read_end so o e = ap (ended so) e
+read_end so o e = ap (at_end so) e
 
 -- ---- lines that have forms
 

@@ -11,7 +11,7 @@ use Rattle.mf_lines.specs.Meaning.{SoFar, so_before}
 use Rattle.mf_lines.specs.Lines.{form_at}
 use Rattle.mf_lines.specs.Drafts.{so_in, IsDraft, Adds}
 use Rattle.mf_script.specs.Texts.{end_fault}
-use Rattle.mf_script.specs.Passes.{ended, read_lines}
+use Rattle.mf_script.specs.Passes.{at_end, read_lines}
 use Rattle.mf_script.proofs.PassLemmas.{read_more, read_refused, read_end}
 
 -- the rest of the text is read behind the draft
@@ -51,7 +51,7 @@ Reading-refused text rest old len whole k so first refused other =
     ∙ read_refused (so_in old) (take len rest) (lines_of (drop whole rest)) k (refused other)
 
 pub Reading-end : (text rest : List ℕ) (draft : Draft) (o : Option Kind) → Reading text rest draft → length rest ≡ 0
-    → end_fault draft.last ≡ o → read_lines so_before (lines_of text) ≡ ended (so_in draft) o
+    → end_fault draft.last ≡ o → read_lines so_before (lines_of text) ≡ at_end (so_in draft) o
 Reading-end text rest draft o so none is =
     so.goes ∙ ap (λ r. read_lines (so_in draft) (lines_of r)) (nil_from_length rest none)
     ∙ ap (read_lines (so_in draft)) lines_of-nil ∙ read_end (so_in draft) o is

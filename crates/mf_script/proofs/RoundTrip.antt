@@ -26,6 +26,7 @@ use Rattle.mf_lines.specs.Meaning.{Script, SoFar, verb_of, file_in, first_word, 
 use Rattle.mf_lines.specs.Meaning.{with_line, so_with, so_of}
 use Rattle.mf_lines.specs.Lines.{knows_servers, may_follow, form_at}
 use Rattle.mf_lines.specs.LineTexts.{listed, limited, behind_verb, behind_word, spaced, line_text, Alike}
+use Rattle.mf_lines.proofs.ListLemmas.{spaced_join}
 use Rattle.mf_lines.proofs.LineWordLemmas.{KnowsFile}
 use Rattle.mf_lines.proofs.FormLemmas.{no_morph, LineIs, line_is}
 use Rattle.mf_script.specs.Texts.{MakeForms, HasForms}
@@ -201,10 +202,6 @@ told so (line ∷ lines) (form ∷ forms) made counts few =
     (told (with_line so form) lines forms made.1 (counts_next so line form is counts) few)
 
 -- ---- lines that are alike are as long
-
-spaced_join : (w : List ℕ) (ws : List (List ℕ)) → join_with_byte 32 (w ∷ ws) ≡ w ++ flat_map spaced ws
-spaced_join w [] = sym (append-nil w)
-spaced_join w (v ∷ ws) = ap (λ r. w ++ 32 ∷ r) (spaced_join v ws)
 
 listed_length : (w : List ℕ) (ws vs : List (List ℕ)) → IsPermutation ws vs
     → length (join_with_byte 32 (w ∷ ws)) ≡ length (join_with_byte 32 (w ∷ vs))

@@ -14,9 +14,9 @@ use Rattle.mf_lines.specs.Drafts.{so_in}
 use Rattle.mf_script.specs.Texts.{end_fault}
 
 -- the lines so far, or what is wrong with a text that ends behind them
-abbrev pub ended : SoFar → Option Kind → Result SoFar ScriptFault
-ended so None = Ok so
-ended so (Some k) = Err (record { line = so.lines + 1; kind = k })
+abbrev pub at_end : SoFar → Option Kind → Result SoFar ScriptFault
+at_end so None = Ok so
+at_end so (Some k) = Err (record { line = so.lines + 1; kind = k })
 
 -- what follows where the next line has a form, or its fault
 abbrev pub after : SoFar → Result Form Kind → (Form → Result SoFar ScriptFault) → Result SoFar ScriptFault
@@ -25,7 +25,7 @@ after so (Err k) next = Err (record { line = so.lines + 1; kind = k })
 
 -- what the lines so far and these add up to, or the fault of the first that has one
 unfoldable pub read_lines : SoFar → List (List ℕ) → Result SoFar ScriptFault
-read_lines so [] = ended so (end_fault so.last)
+read_lines so [] = at_end so (end_fault so.last)
 read_lines so (line ∷ lines) = after so (form_at so line) (λ form. read_lines (with_line so form) lines)
 
 -- what a text's lines add up to, or its fault; a text that is too long has it before all else

@@ -95,8 +95,8 @@ pub fn least_decoding<R: Clock + AllocGlobal>(
     Ok(least)
 }
 
-// The pieces of a stripe, without the first ones.
-fn pieces_without(
+/// The pieces of a stripe, without the first ones.
+pub fn pieces_without(
     alloc: Global,
     width: u32,
     lost: u32,

@@ -1,24 +1,31 @@
 //! The least time of gathering a stripe, in nanoseconds.
 use crate::codes::{POINTS, Turns, nanoseconds_since};
-use crate::stripe::Sound;
+use crate::stripe::Lossy;
 use anyhow::{Result, bail};
 use mf_check::{Family, check};
-use mf_decode::{Gathered, gather};
+use mf_decode::{Gathered, PlanCache, gather_kept};
 use mf_shape::{Shape, Stage};
 use std::alloc::Global;
 use std::rt::Clock;
 use std::time::Instant;
 
-/// The time of gathering a stripe of 6 chunks of which nothing is lost.
-pub fn least_gathering<R: Clock + AllocGlobal>(rt: &R, turns: Turns, size: u32) -> Result<u64> {
+/// The time of gathering a stripe of 6 chunks of which the first `lost` ones are lost, with the
+/// plans of the cache.
+pub fn least_gathering<R: Clock + AllocGlobal>(
+    rt: &R,
+    turns: Turns,
+    lost: u32,
+    size: u32,
+    cache: &mut PlanCache,
+) -> Result<u64> {
     let alloc = rt.alloc();
     let family = family_of_six(alloc)?;
     let mut least = u64::MAX;
     for _ in 0..turns.count {
-        let mut stripe = Sound::new(alloc, &POINTS, 6, size)?;
+        let mut stripe = Lossy::new(alloc, &POINTS, 6, lost, size)?;
         let start = Instant::now(rt)?;
         for _ in 0..turns.repeats {
-            gather_from(alloc, &family, &mut stripe)?;
+            gather_from(alloc, &family, cache, &mut stripe)?;
         }
         least = least.min(nanoseconds_since(rt, &start)?);
     }
@@ -42,18 +49,24 @@ fn family_of_six(alloc: Global) -> Result<Family> {
 }
 
 // Gathers the stripe.
-fn gather_from(alloc: Global, family: &Family, stripe: &mut Sound) -> Result<()> {
+fn gather_from(
+    alloc: Global,
+    family: &Family,
+    cache: &mut PlanCache,
+    stripe: &mut Lossy,
+) -> Result<()> {
     let width = family.shape().stages()[0].width;
     let count = stripe.pieces.len();
     let size = stripe.size;
-    if count > width as usize || stripe.points != family.points() {
+    let points = family.points();
+    if count > width as usize || stripe.points != points {
         bail!("the stripe isn't one of the family");
     }
     if stripe.failure.is_some() {
         bail!("memory ran out before");
     }
-    match gather(alloc, stripe, family.points(), width, count as u32, size) {
+    match gather_kept(alloc, cache, stripe, points, width, count as u32, size) {
         Gathered::All(_) => Ok(()),
-        _ => bail!("a chunk isn't there"),
+        _ => bail!("too few chunks are there"),
     }
 }

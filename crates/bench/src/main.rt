@@ -39,6 +39,9 @@ fn explain(rt: &impl Print) -> Result<()> {
     println!(rt; "decode E of K+3: K - E chunks and E parities to the E erased chunks")?;
     println!(rt; "gather 6+3: the 6 chunks of a stripe of which nothing is lost")?;
     println!(rt;
+        "gather 1 of 6+3: those of one that lost a chunk, with a plan made each time or kept"
+    )?;
+    println!(rt;
         "check 33+4: four stages of 33 chunks and 4 parities, the worst known that is accepted"
     )?;
     println!(rt; "get alone, shared: a get by a file's only actor, and by one of several")?;

@@ -8,6 +8,7 @@ use crate::gathering::least_gathering;
 use crate::kernels::{Kernel, least_kernel};
 use crate::store::least_floor;
 use anyhow::Result;
+use mf_decode::PlanCache;
 use mf_vault::Name;
 use std::rt::Clock;
 use std::sync::Wait;
@@ -121,18 +122,31 @@ fn report_decodings<R: Print + Clock + AllocGlobal>(
     Ok(())
 }
 
-// Times the gathering of a stripe of which nothing is lost.
+// Times the gathering of a stripe, whole and without a chunk, with a plan that is made each time
+// and with one that is kept.
 fn report_gathering<R: Print + Clock + AllocGlobal>(
     rt: &R,
     turns: Turns,
     size: u32,
     plain: u64,
 ) -> Result<()> {
-    let least = least_gathering(rt, turns, size)?;
+    let bytes = 6 * u64::from(size);
+    let mut none = PlanCache::none();
+    let least = least_gathering(rt, turns, 0, size, &mut none)?;
+    print_rate(rt, "gather 6+3", rate(turns, bytes, least), plain)?;
+    let least = least_gathering(rt, turns, 1, size, &mut none)?;
     print_rate(
         rt,
-        "gather 6+3",
-        rate(turns, 6 * u64::from(size), least),
+        "gather 1 of 6+3, plan made",
+        rate(turns, bytes, least),
+        plain,
+    )?;
+    let mut kept = PlanCache::new(rt.alloc(), 1)?;
+    let least = least_gathering(rt, turns, 1, size, &mut kept)?;
+    print_rate(
+        rt,
+        "gather 1 of 6+3, plan kept",
+        rate(turns, bytes, least),
         plain,
     )
 }

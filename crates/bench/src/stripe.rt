@@ -1,39 +1,46 @@
-//! A stripe in memory of which nothing is lost.
+//! A stripe in memory, of which the first pieces may be lost.
 ghost use Rattle.std.specs.Prelude.{◌≡◌, None, Ok, IfOk, IfSome, length};
 ghost use Rattle.mf_decode.specs.Answers.{answers_after, failure_of};
 
-use crate::codes::chunks;
+use crate::codes::{chunks, pieces_without};
 use mf_decode::{Asked, Chunk, Memory, Pieces, Place};
 use std::alloc::{AllocError, Global};
 
-/// The pieces and the parities, each of `size` bytes, and what was asked for.
+/// The pieces, None where one is lost, the parities, each of `size` bytes, and what was asked for.
 #[derive(Drop)]
-pub struct Sound<'a> {
+pub struct Lossy<'a> {
     pub points: &'a [u8],
     pub size: u32,
-    pub pieces: Vec<Chunk>,
+    pub pieces: Vec<Option<Chunk>>,
     pub parities: Vec<Chunk>,
     pub asked: Vec<Asked>,
     pub failure: Option<Place>,
 }
 
-impl<'a> Sound<'a> {
-    /// A stripe of so many pieces, with a parity for each point, of which there are at most four.
-    pub fn new(alloc: Global, points: &'a [u8], count: u32, size: u32) -> Result<Sound<'a>, Memory>
-        ensures { IfOk result (λ sound. (sound.points.now ≡ points.now) × (sound.size ≡ size)
-            × (sound.failure ≡ None)) }
+impl<'a> Lossy<'a> {
+    /// A stripe of so many pieces without the first `lost` ones, with a parity for each point, of
+    /// which there are at most four.
+    pub fn new(
+        alloc: Global,
+        points: &'a [u8],
+        count: u32,
+        lost: u32,
+        size: u32,
+    ) -> Result<Lossy<'a>, Memory>
+        ensures { IfOk result (λ lossy. (lossy.points.now ≡ points.now) × (lossy.size ≡ size)
+            × (lossy.failure ≡ None)) }
     {
-        Ok(Sound {
+        Ok(Lossy {
             points,
             size,
-            pieces: chunks(alloc, count, size)?,
+            pieces: pieces_without(alloc, count, lost, size)?,
             parities: chunks(alloc, points.len().min(4) as u32, size)?,
             asked: Vec::new(alloc),
             failure: None,
         })
     }
 
-    // A further owner of the chunk, where it has the stripe's size.
+    // A further owner of the chunk, where it is there and has the stripe's size.
     fn share(&self, chunk: Option<&Chunk>) -> Result<Option<Chunk>, Memory>
         ensures { IfOk result (λ o. IfSome o (λ bytes. length bytes ≡ self.now.size)) }
     {
@@ -73,7 +80,7 @@ impl<'a> Sound<'a> {
     }
 }
 
-impl Pieces for Sound<'_> {
+impl Pieces for Lossy<'_> {
     ghost use Rattle.std.specs.Prelude.{length, None};
     ghost use Rattle.bench.specs.Stripes.{stripe_of, shape_of};
 
@@ -88,7 +95,10 @@ impl Pieces for Sound<'_> {
     ghost shape = { λ s. shape_of s.size s.points.now (length s.pieces.items) };
 
     fn piece(&mut self, t: u32) -> Result<Option<Chunk>, Memory> {
-        let answer = self.share(self.pieces.get(t as usize));
+        let answer = match self.pieces.get(t as usize) {
+            Some(Some(chunk)) => self.share(Some(chunk)),
+            _ => Ok(None),
+        };
         self.told(Place::Piece(t), answer)
     }
 

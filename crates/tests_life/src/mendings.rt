@@ -1,16 +1,16 @@
 //! A file that its only actor repairs and reclaims.
-ghost use Rattle.std.specs.Prelude.{◌≡◌, [], length, IfOk};
+ghost use Rattle.std.specs.Prelude.{◌≡◌, [], IfOk};
 ghost use Rattle.mf_plain.specs.Whole.{actor_of};
 ghost use Rattle.tests_life.specs.Mendings.{HasLine, IsFileOf, RestsOf};
 ghost use Rattle.mf_vault.specs.Conditions.{IsOfFamily};
 
-use crate::stages::{assert_no_row, family};
+use crate::stages::{assert_no_row, family, file};
 use mf_check::Family;
 use mf_convert::{Change, create, remove};
 use mf_plain::{Plain, PlainAccess};
 use mf_reclaim::{ReclaimOutcome, reclaim};
 use mf_repair::{RepairOutcome, repair};
-use mf_vault::{Access, Book, Fetch, Io, Losses, Memory, Name, Servers, count_io};
+use mf_vault::{Access, Fetch, Io, Losses, Memory, Name, Servers, count_io};
 use std::alloc::Global;
 use std::test::Fail;
 
@@ -60,17 +60,6 @@ static REPAIRS: [(&[u32], u128, Wanted, [u64; 6]); 8] = [
     ),
 ];
 
-// The file of these four bytes, not created.
-fn file(alloc: Global, family: &Family, bytes: &[u8]) -> Result<Plain, Memory>
-    requires { length bytes.now ≡ 4 }
-    ensures family { IfOk result (λ plain.
-        IsOfFamily family.now.shape family.now.points plain.book) }
-    ensures file { IfOk result (λ plain. IsFileOf plain.book bytes.now [] plain) }
-{
-    let book = Book::new(alloc, family.shape(), family.points(), 1, 0, 4)?;
-    Plain::new(alloc, book, bytes)
-}
-
 // What rests behind a phase.
 fn rest(access: PlainAccess) -> Plain
     ensures { RestsOf (actor_of access).facts result }
@@ -80,7 +69,13 @@ fn rest(access: PlainAccess) -> Plain
 }
 
 // The file, created.
-fn created(alloc: Global, plain: Plain, family: &Family, bytes: &[u8], losses: &Losses) -> Plain
+pub(crate) fn created(
+    alloc: Global,
+    plain: Plain,
+    family: &Family,
+    bytes: &[u8],
+    losses: &Losses,
+) -> Plain
     requires family { IsOfFamily family.now.shape family.now.points plain.book }
     requires file { IsFileOf plain.book bytes.now losses.now plain }
     ensures { IsFileOf plain.book bytes.now losses.now result }
@@ -123,7 +118,7 @@ fn lose(
 }
 
 // The file behind lose lines of these servers, which have the lines 11, 12 and so on.
-fn lose_all(
+pub(crate) fn lose_all(
     alloc: Global,
     plain: Plain,
     losses: &mut Losses,
@@ -206,7 +201,13 @@ fn mended(
 ) -> Result<(RepairOutcome, Io), Memory> {
     let mut losses = Losses::new(alloc);
     let bytes = b"abcd";
-    let plain = created(alloc, file(alloc, family, bytes)?, family, bytes, &losses);
+    let plain = created(
+        alloc,
+        file(alloc, family, 1, bytes)?,
+        family,
+        bytes,
+        &losses,
+    );
     let plain = lose_all(alloc, plain, &mut losses, servers)?;
     Ok(repaired(alloc, plain, family, &losses, away))
 }
@@ -260,14 +261,7 @@ fn reclaimed(alloc: Global, plain: Plain, losses: &Losses) -> (Plain, [usize; 4]
     (rest(access), [closed, dropped, pinned, entries])
 }
 
-fn absent_reclaimed(alloc: Global, family: &Family, losses: &Losses) -> Result<[usize; 4], Memory>
-    requires { losses.now ≡ [] }
-{
-    let plain = file(alloc, family, b"abcd")?;
-    Ok(reclaimed(alloc, plain, losses).1)
-}
-
-// The same of a file that is created; then it is removed, and reclaimed twice.
+// The same of a file that is created and reclaimed; then it is removed, and reclaimed twice.
 fn removed_reclaimed(
     alloc: Global,
     family: &Family,
@@ -275,7 +269,7 @@ fn removed_reclaimed(
 ) -> Result<[[usize; 4]; 3], Memory>
     requires { losses.now ≡ [] }
 {
-    let plain = file(alloc, family, b"abcd")?;
+    let plain = file(alloc, family, 1, b"abcd")?;
     let plain = created(alloc, plain, family, b"abcd", losses);
     let (plain, first) = reclaimed(alloc, plain, losses);
     let (plain, done) = removed(alloc, plain, losses);
@@ -292,7 +286,8 @@ fn removed_reclaimed(
 fn reclaims_what_only_closed_generations_hold(rt: HostRuntime) -> Result<(), Fail> {
     let family = family(rt.alloc())?;
     let losses = Losses::new(rt.alloc());
-    assert!(rt; absent_reclaimed(rt.alloc(), &family, &losses)? == [100, 100, 100, 0]);
+    let plain = file(rt.alloc(), &family, 1, b"abcd")?;
+    assert!(rt; reclaimed(rt.alloc(), plain, &losses).1 == [100, 100, 100, 0]);
     let said = removed_reclaimed(rt.alloc(), &family, &losses)?;
     assert!(rt; said == [[0, 0, 0, 0], [2, 12, 0, 16], [0, 0, 0, 16]]);
     Ok(())

@@ -7,8 +7,8 @@ ghost use Rattle.mf_shared.specs.Seats.{IsOf, view_of};
 ghost use Rattle.mf_shared.specs.Shared.{facts_in};
 ghost use Rattle.tests_life.specs.Turns.{Follows, IsAble, IsTried, Stays};
 
-use crate::stages::family;
-use crate::turns::{Came, Turn, file, take};
+use crate::stages::{family, file};
+use crate::turns::{Came, Turn, take};
 use mf_check::Family;
 use mf_convert::Change;
 use mf_machine::Closed;
@@ -433,7 +433,7 @@ fn new_race(alloc: Global) -> Result<(Race, Seat), Memory>
     let bytes = Vec::from_slice(alloc, b"abcd")?;
     let mut losses = Losses::new(alloc);
     losses.push(11, 0)?;
-    let plain = file(alloc, &family, &bytes)?;
+    let plain = file(alloc, &family, 1, &bytes)?;
     let Ok((shared, seat)) = Shared::of_plain(alloc, plain, 7, &losses) else {
         return Err(AllocError);
     };

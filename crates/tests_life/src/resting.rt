@@ -5,8 +5,7 @@ ghost use Rattle.mf_places.specs.Names.{count_of};
 ghost use Rattle.mf_vault.specs.Facts.{stages};
 ghost use Rattle.mf_plain.specs.Whole.{actor_of};
 
-use crate::stages::family;
-use crate::turns::file;
+use crate::stages::{family, file};
 use mf_plain::{Plain, PlainAccess};
 use mf_shared::{Seat, Shared, SharedAccess};
 use mf_vault::{Access, Book, Closed, Losses, Memory, Pinned, Rest, Servers, Slot};
@@ -44,7 +43,7 @@ fn finds_it_absent(access: &mut PlainAccess) -> bool
 
 // Whether the only actor is told so, and the file rests then as before.
 fn rests_absent(alloc: Global) -> Result<bool, Memory> {
-    let plain = file(alloc, &family(alloc)?, b"abcd")?;
+    let plain = file(alloc, &family(alloc)?, 1, b"abcd")?;
     let losses = Losses::new(alloc);
     let mut access = PlainAccess::new(alloc, plain, 7, &losses);
     access.reserve(3)?;
@@ -106,7 +105,7 @@ fn may_cross<S: Send, F: Sync>(_seat: &S, _file: &F) {}
 
 // Whether a file that isn't created rests again behind two actors, of whom one took the right.
 fn rests_again<R: Wait>(rt: &R, alloc: Global) -> Result<bool, Memory> {
-    let plain = file(alloc, &family(alloc)?, b"abcd")?;
+    let plain = file(alloc, &family(alloc)?, 1, b"abcd")?;
     let losses = Losses::new(alloc);
     let Ok((shared, mut first)) = Shared::of_plain(alloc, plain, 7, &losses) else {
         return Err(AllocError);
@@ -123,7 +122,7 @@ fn rests_again<R: Wait>(rt: &R, alloc: Global) -> Result<bool, Memory> {
 
 #[test]
 fn files_that_are_not_created_rest(rt: HostRuntime) -> Result<(), Fail> {
-    let plain = file(rt.alloc(), &family(rt.alloc())?, b"abcd")?;
+    let plain = file(rt.alloc(), &family(rt.alloc())?, 1, b"abcd")?;
     assert!(rt; is_unborn(&Plain::together(plain.apart()))?);
     assert!(rt; rests_absent(rt.alloc())?);
     assert!(rt; rests_again(&rt, rt.alloc())?);

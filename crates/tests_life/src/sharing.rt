@@ -5,8 +5,7 @@ ghost use Rattle.mf_machine.specs.Actors.{LacksRight};
 ghost use Rattle.mf_vault.specs.Conditions.{IsIdle, IsOfFamily, Leaves};
 
 use crate::conversions::{converted, created};
-use crate::stages::family;
-use crate::turns::file;
+use crate::stages::{family, file};
 use mf_check::Family;
 use mf_convert::{Change, remove};
 use mf_reclaim::{ReclaimOutcome, reclaim};
@@ -105,7 +104,7 @@ fn take_turns<A: Fetch>(alloc: Global, first: &mut A, second: &mut A, family: &F
 // Whether it is so of two actors of one file; and how many entries there are of each.
 fn two_actors<R: Wait>(rt: &R, alloc: Global) -> Result<(bool, usize, usize), Memory> {
     let family = family(alloc)?;
-    let plain = file(alloc, &family, b"abcd")?;
+    let plain = file(alloc, &family, 1, b"abcd")?;
     let losses = Losses::new(alloc);
     let Ok((shared, mut seat)) = Shared::of_plain(alloc, plain, 0, &losses) else {
         return Err(AllocError);

@@ -1,7 +1,13 @@
-//! The family of a file that grows from copies and narrow stripes to wide ones.
+//! The family of a file that grows from copies and narrow stripes to wide ones, and a file that is
+//! not created.
+ghost use Rattle.std.specs.Prelude.{◌≡◌, ◌≤◌, [], length, IfOk};
+ghost use Rattle.mf_vault.specs.Conditions.{IsOfFamily};
+ghost use Rattle.tests_life.specs.Mendings.{IsFileOf};
+
 use mf_check::{Family, check};
+use mf_plain::Plain;
 use mf_shape::{Shape, Stage};
-use mf_vault::Memory;
+use mf_vault::{Book, Memory};
 use std::alloc::{AllocError, Global};
 use std::process::Abort;
 
@@ -32,6 +38,25 @@ pub(crate) fn family_of(alloc: Global, stages: &[Stage], servers: u32) -> Result
         Ok(family) => Ok(family),
         Err(_fault) => Err(AllocError),
     }
+}
+
+// The file of these bytes in chunks of this size, not created.
+pub(crate) fn file(
+    alloc: Global,
+    family: &Family,
+    chunk: u32,
+    bytes: &[u8],
+) -> Result<Plain, Memory>
+    requires chunk { (1 ≤ chunk) × (chunk ≤ 64) }
+    requires bytes { length bytes.now ≤ 64 }
+    ensures family { IfOk result (λ plain.
+        IsOfFamily family.now.shape family.now.points plain.book) }
+    ensures file { IfOk result (λ plain. IsFileOf plain.book bytes.now [] plain) }
+    ensures fresh { IfOk result (λ plain. plain.born ≡ 0) }
+{
+    let length = bytes.len() as u32;
+    let book = Book::new(alloc, family.shape(), family.points(), chunk, 0, length)?;
+    Plain::new(alloc, book, bytes)
 }
 
 // Fails where there is a wrong row, and tells its number.

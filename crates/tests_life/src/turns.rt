@@ -1,12 +1,12 @@
 //! Two actors of one file take turns, and the only actor of a file does the same.
-ghost use Rattle.std.specs.Prelude.{◌≡◌, ◌≤◌, ◌++◌, [], List, length, IfOk};
+ghost use Rattle.std.specs.Prelude.{◌≡◌, ◌≤◌, ◌++◌, List};
 ghost use Rattle.mf_places.specs.declared.losses.LoseLine.{LoseLine};
 ghost use Rattle.mf_vault.specs.Conditions.{IsIdle, IsOfFamily};
 ghost use Rattle.mf_vault.specs.May.{MayLose};
 ghost use Rattle.tests_life.specs.Mendings.{HasLine};
 ghost use Rattle.tests_life.specs.Turns.{Follows, IsAble};
 
-use crate::stages::family;
+use crate::stages::{family, file};
 use mf_check::Family;
 use mf_convert::{Change, convert, create, remove};
 use mf_plain::{Plain, PlainAccess};
@@ -14,7 +14,7 @@ use mf_read::{ReadOutcome, read};
 use mf_reclaim::{ReclaimOutcome, reclaim};
 use mf_repair::{RepairOutcome, repair};
 use mf_shared::{Shared, SharedAccess};
-use mf_vault::{Access, Book, Fetch, Losses, Memory, Name, Pinned, Servers, Slot};
+use mf_vault::{Access, Fetch, Losses, Memory, Name, Pinned, Servers, Slot};
 use std::alloc::{AllocError, Global};
 use std::sync::Wait;
 use std::test::Fail;
@@ -76,17 +76,12 @@ static TURNS: [(bool, Turn, Came); 14] = [
     (true, Turn::Reclaim, Came::Reclaimed(1, 6, 0)),
 ];
 
-fn bytes_as(g: u32, bytes: &[u8], from: u32) -> Came {
-    if bytes == b"abcd".as_slice() {
-        Came::Read(g, from)
-    } else {
-        Came::Otherwise
-    }
-}
-
 fn read_as(outcome: ReadOutcome) -> Came {
     match outcome {
-        ReadOutcome::Bytes { g, bytes, from } => bytes_as(g, bytes.as_slice(), from),
+        ReadOutcome::Bytes { g, bytes, from } => match bytes.as_slice() {
+            [b'a', b'b', b'c', b'd'] => Came::Read(g, from),
+            _ => Came::Otherwise,
+        },
         ReadOutcome::Absent => Came::Absent,
         ReadOutcome::Removed => Came::Removed,
         _ => Came::Otherwise,
@@ -306,18 +301,6 @@ fn by_one<A: Fetch>(
     Ok(None)
 }
 
-// The file of these four bytes, not created.
-pub(crate) fn file(alloc: Global, family: &Family, bytes: &[u8]) -> Result<Plain, Memory>
-    requires { length bytes.now ≡ 4 }
-    ensures family { IfOk result (λ plain.
-        IsOfFamily family.now.shape family.now.points plain.book) }
-    ensures bytes { IfOk result (λ plain. plain.bytes ≡ bytes.now) }
-    ensures fresh { IfOk result (λ plain. (plain.losses ≡ []) × (plain.born ≡ 0)) }
-{
-    let book = Book::new(alloc, family.shape(), family.points(), 1, 0, 4)?;
-    Plain::new(alloc, book, bytes)
-}
-
 // The turns of the only actor: the first one that went otherwise, the published number that is
 // left, and how many entries there are.
 fn alone(
@@ -376,7 +359,7 @@ fn alone_of(alloc: Global, losses: &Losses) -> Result<(Option<usize>, u32, usize
     requires { HasLine losses.now 11 0 }
 {
     let family = family(alloc)?;
-    let plain = file(alloc, &family, b"abcd")?;
+    let plain = file(alloc, &family, 1, b"abcd")?;
     alone(alloc, plain, 7, losses, &family, b"abcd")
 }
 
@@ -389,7 +372,7 @@ fn shared_of<R: Wait>(
     requires { HasLine losses.now 11 0 }
 {
     let family = family(alloc)?;
-    let plain = file(alloc, &family, b"abcd")?;
+    let plain = file(alloc, &family, 1, b"abcd")?;
     by_shares(rt, alloc, plain, 7, losses, &family, b"abcd")
 }
 

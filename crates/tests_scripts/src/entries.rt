@@ -1,5 +1,4 @@
 //! What each kind of entry adds to the counts of a ledger.
-use crate::stages::assert_no_row;
 use mf_vault::{Answer, Closed, Entry, Io, Memory, Name, Op, count_io};
 use std::alloc::Global;
 use std::test::Fail;
@@ -87,8 +86,7 @@ fn all_kinds(alloc: Global) -> Result<Vec<Entry>, Memory> {
 
 #[test]
 fn each_kind_of_entry_counts_once(rt: HostRuntime) -> Result<(), Fail> {
-    assert_no_row(&rt, first_other());
-    assert_no_row(&rt, first_counted());
+    assert_eq!(rt; (first_other(), first_counted()), (None, None));
     let entries = all_kinds(rt.alloc())?;
     assert!(rt; numbers(count_io(entries.as_slice())) == [1, 1, 1, 2, 2, 3, 1]);
     Ok(())

@@ -31,8 +31,8 @@ fn is_main(script: &Script, thresholds: Option<&[u64]>) -> bool {
     let family = script.family(0);
     has_policy
         && script.version() == 1
-        && script.family_name(0) == b"main"
-        && family.points() == [1, 2]
+        && script.family_name(0) == b"main".as_slice()
+        && family.points() == [1, 2].as_slice()
         && family.shape().stages().len() == 2
         && script.family_of(0) == 0
         && script.family_of(1) == 0
